@@ -1,3 +1,8 @@
 -- The laws of the definitions in specs/.
+pub mod Fraction
+pub mod Value
+pub mod Rounding
+pub mod Next
+pub mod Cases
 pub mod Both
 pub mod Agreement
