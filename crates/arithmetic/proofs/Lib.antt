@@ -4,5 +4,6 @@ pub mod Value
 pub mod Rounding
 pub mod Next
 pub mod Cases
+pub mod Tests
 pub mod Both
 pub mod Agreement

@@ -1,0 +1,66 @@
+-- The tests of the definitions, as a program makes them: by comparing doubles.
+use mathlib.Core.Path.{_≡_, refl, sym, ap, subst, _∙_}
+use native.Mathlib.Omega.{arith}
+use mathlib.Core.Bool.{Bool, true, false, not, _&&_}
+use lib.Dec.{T}
+use lib.IntN.{pos}
+use lib.Ieee.{Float, nan, inf, fin, binary64, ofBits, lt, eq, sub, div}
+use lib.Ieee.Scale.{finite}
+use Rattle.arithmetic.specs.Fraction.{_≺?_, _⊕_, opp}
+use Rattle.arithmetic.specs.Value.{value}
+use Rattle.arithmetic.specs.Basic.{below, above, passes}
+use Rattle.arithmetic.specs.Doubles.{whereFinite}
+use Rattle.arithmetic.proofs.Fraction.{≺?→≺, ≺→≺?}
+use Rattle.arithmetic.proofs.Value.{lt→≺, ≺→lt}
+use Rattle.arithmetic.proofs.Rounding.{sub-is, rounded-zero}
+
+-- two tests that imply one another are one
+pub iff : (a b : Bool) → (T a → T b) → (T b → T a) → a ≡ b
+iff true true f g = refl
+iff true false f g = absurd (f tt)
+iff false true f g = absurd (g tt)
+iff false false f g = refl
+
+module _ (x y : Float) (p : T (finite x)) (q : T (finite y)) where
+  ≺?-is : (value x ≺? value y) ≡ lt x y
+  ≺?-is = iff (value x ≺? value y) (lt x y) (λ t. ≺→lt x y p q (≺?→≺ (value x) (value y) t)) (λ t. ≺→≺? (value x) (value y) (lt→≺ x y p q t))
+
+pub below-is : (x c : Float) → T (finite x) → T (finite c) → passes (below c) (value x) ≡ lt x c
+below-is x c p q = ≺?-is x c p q
+
+pub above-is : (x c : Float) → T (finite x) → T (finite c) → passes (above c) (value x) ≡ lt c x
+above-is x c p q = ≺?-is c x q p
+
+-- a number less itself is zero, and an infinity less itself is NaN
+pub finite-is : (x : Float) → eq (sub binary64 x x) (ofBits binary64 0) ≡ finite x
+unfolding sub eq ofBits
+finite-is nan = refl
+finite-is (inf true) = refl
+finite-is (inf false) = refl
+finite-is (fin s m e) = ap (λ (y : Float). eq y (fin false 0 (pos 0))) (sub-is binary64 (fin s m e) (fin s m e) tt tt ∙ rounded-zero binary64 (s && not s) (value (fin s m e) ⊕ opp (value (fin s m e))) (none s)) ∙ zeros (s && not s)
+  where
+    none : (s : Bool) → (value (fin s m e) ⊕ opp (value (fin s m e))) .minus ≡ (value (fin s m e) ⊕ opp (value (fin s m e))) .plus
+    none true = omega arith
+    none false = omega arith
+
+    zeros : (z : Bool) → eq (fin z 0 (pos 0)) (fin false 0 (pos 0)) ≡ true
+    zeros true = refl
+    zeros false = refl
+
+-- ---- how a program writes NaN, and returns it where a test of what is finite fails
+abbrev pub zeroByZero : Float
+zeroByZero = div binary64 (ofBits binary64 0) (ofBits binary64 0)
+
+pub zero-by-zero : zeroByZero ≡ nan
+unfolding div ofBits
+zero-by-zero = refl
+
+module _ (b : Bool) (x y : Float) (e : b ≡ finite x) where
+  pub where-then : b ≡ true → y ≡ whereFinite x y
+  where-then t = rw (← e, t) refl
+
+  pub where-else : b ≡ false → zeroByZero ≡ whereFinite x y
+  where-else t = rw (← e, t) zero-by-zero
+
+pub is-so : (b : Bool) (x : Float) → b ≡ finite x → b ≡ true → T (finite x)
+is-so b x e t = subst T (sym (sym e ∙ t)) tt
