@@ -5,5 +5,6 @@ pub mod Rounding
 pub mod Next
 pub mod Cases
 pub mod Tests
+pub mod Exact
 pub mod Both
 pub mod Agreement

@@ -28,7 +28,7 @@ unfolding nextDown
 nextDown-fits f x = ofBits-fits f (bitsDown f (toBits f x))
 
 -- ---- the magnitude of a pattern without its sign, in units of the smallest value: by the exponent's field and the digits, h being the weight of the leading digit
-abbrev pub steps : ℕ → ℕ → ℕ → ℕ
+abbrev steps : ℕ → ℕ → ℕ → ℕ
 steps h zero t = t * 1
 steps h (suc k) t = (h + t) * 2 ^ k
 
@@ -83,7 +83,7 @@ read-minus f c h =
     ∙ ap₂ (λ (s : Bool) (y : ℕ). ofFields f s (y / hid f) ((top f + c) % hid f)) (is-true (leb (top f) (top f + c)) (le→leb (top f) (top f + c) (le-add-right (top f) c))) (add-mod-left (top f) c ∙ mod-eq-of-lt h)
     ∙ ap (λ (y : ℕ). ofFields f true (c / hid f) y) (mul-add-mod-self-left (hid f) (suc (ones f)) c)
 
-pub fields-value : (f : Format) (s : Bool) (x t : ℕ) → T (finite (ofFields f s x t)) → HasValue (ofFields f s x t) s (steps (hid f) x t) (2 ^ low f)
+fields-value : (f : Format) (s : Bool) (x t : ℕ) → T (finite (ofFields f s x t)) → HasValue (ofFields f s x t) s (steps (hid f) x t) (2 ^ low f)
 unfolding ofFields
 fields-value f s zero t h = odd-sign (prec f) s t 0 (low f)
 fields-value f s (suc x) t h = go (eqb (suc x) (ones f)) (eqb t 0) h

@@ -2,16 +2,17 @@
 use mathlib.Core.Path.{_≡_, refl, sym, ap, subst, _∙_}
 use native.Mathlib.Omega.{arith}
 use mathlib.Core.Bool.{Bool, true, false, not, _&&_}
-use lib.Dec.{T}
+use mathlib.Core.Logic.{_⊎_, inl, inr}
+use lib.Dec.{T, not-T, T-not}
 use lib.IntN.{pos}
-use lib.Ieee.{Float, nan, inf, fin, binary64, ofBits, lt, eq, sub, div}
+use lib.Ieee.{Float, nan, inf, fin, binary64, ofBits, lt, le, eq, sub, div}
 use lib.Ieee.Scale.{finite}
 use Rattle.arithmetic.specs.Fraction.{_≺?_, _⊕_, opp}
 use Rattle.arithmetic.specs.Value.{value}
 use Rattle.arithmetic.specs.Basic.{below, above, passes}
 use Rattle.arithmetic.specs.Doubles.{whereFinite}
-use Rattle.arithmetic.proofs.Fraction.{≺?→≺, ≺→≺?}
-use Rattle.arithmetic.proofs.Value.{lt→≺, ≺→lt}
+use Rattle.arithmetic.proofs.Fraction.{≺?→≺, ≺→≺?, ≺-not-≼, ≼-or-≻}
+use Rattle.arithmetic.proofs.Value.{lt→≺, ≺→lt, le→≼, ≼→le}
 use Rattle.arithmetic.proofs.Rounding.{sub-is, rounded-zero}
 
 -- two tests that imply one another are one
@@ -24,6 +25,11 @@ iff false false f g = refl
 module _ (x y : Float) (p : T (finite x)) (q : T (finite y)) where
   ≺?-is : (value x ≺? value y) ≡ lt x y
   ≺?-is = iff (value x ≺? value y) (lt x y) (λ t. ≺→lt x y p q (≺?→≺ (value x) (value y) t)) (λ t. ≺→≺? (value x) (value y) (lt→≺ x y p q t))
+
+  pub le-is : le x y ≡ not (lt y x)
+  le-is = iff (le x y) (not (lt y x))
+      (λ t. not-T (lt y x) (λ u. ≺-not-≼ (lt→≺ y x q p u) (le→≼ x y p q t)))
+      (λ t. elim (≼-or-≻ (value x) (value y)) [ inl h ↦ ≼→le x y p q h | inr h ↦ absurd (T-not (lt y x) t (≺→lt y x q p h)) ])
 
 pub below-is : (x c : Float) → T (finite x) → T (finite c) → passes (below c) (value x) ≡ lt x c
 below-is x c p q = ≺?-is x c p q

@@ -3,7 +3,7 @@ use mathlib.Core.Path.{_≡_, refl}
 use mathlib.Core.Bool.{true, false}
 use mathlib.Core.List.{List, [], _∷_}
 use Prim.Native.Nat.{ℕ, zero, suc, _+_, _*_, _^_}
-use lib.Ieee.{Float, binary64, ofBits, round}
+use lib.Ieee.{Float, binary64, ofBits, round, neg}
 
 abbrev pub bits : ℕ → Float
 bits b = ofBits binary64 b
@@ -25,22 +25,22 @@ abbrev pub quarter : Float
 quarter = bits 0x3FD0000000000000
 
 abbrev pub minusQuarter : Float
-minusQuarter = bits 0xBFD0000000000000
+minusQuarter = neg quarter
 
 abbrev pub minusOne : Float
-minusOne = bits 0xBFF0000000000000
+minusOne = neg one
 
 abbrev pub sevenHundred : Float
 sevenHundred = bits 0x4085E00000000000
 
 abbrev pub minusSevenHundred : Float
-minusSevenHundred = bits 0xC085E00000000000
+minusSevenHundred = neg sevenHundred
 
 abbrev pub twenty : Float
 twenty = bits 0x4034000000000000
 
 abbrev pub minusTwenty : Float
-minusTwenty = bits 0xC034000000000000
+minusTwenty = neg twenty
 
 -- L, the double of ln 2; E, the double of log2 e; H and G, ln 2 in two parts
 abbrev pub L : Float
@@ -114,7 +114,7 @@ small-are = (refl, refl, refl, refl)
 
 limits-are : (quarter ≡ round binary64 false 1 4) × (minusQuarter ≡ round binary64 true 1 4) × (minusOne ≡ round binary64 true 1 1) × (sevenHundred ≡ round binary64 false 700 1)
     × (minusSevenHundred ≡ round binary64 true 700 1) × (twenty ≡ round binary64 false 20 1) × (minusTwenty ≡ round binary64 true 20 1)
-unfolding round ofBits
+unfolding round ofBits neg
 limits-are = (refl, refl, refl, refl, refl, refl, refl)
 
 -- ln 2 = 0.693147180559945309417232121458.., log2 e = 1.442695040888963407359924681001..
