@@ -12,7 +12,8 @@ use lib.Pow.{pow-pos, pow-lt, pow-mono}
 use lib.Ieee.{up, down, minus, size}
 use lib.Ieee.Fits.{up-pos, down-pos}
 use lib.Ieee.Digits.{minus-val, size-lt, size-reaches, size-le}
-use lib.Ieee.Bits.{is-true}
+use lib.Arith.{le→nltb}
+use lib.Ieee.Bits.{is-true, is-false}
 use Rattle.arithmetic.specs.Fraction.{Fraction, _≼_, _≺_, _≺?_, null, whole}
 use Rattle.arithmetic.specs.Cases.{binade, near, exponentOf, floorOf}
 use Rattle.arithmetic.specs.Basic.{Step, exponent, floor, pick}
@@ -176,6 +177,10 @@ exponent-is q e i =
     let k : 0 < q .plus - q .minus = omega arith in
     rw (is-true (ltb (q .minus) (q .plus)) (lt→ltb (q .minus) (q .plus) h))
     (ap some (only binade binade-apart (near-in q h (minus (size (q .plus - q .minus)) (size (q .den))) (not-under (q .plus - q .minus) (q .den) k (q .above)) (not-over (q .plus - q .minus) (q .den) k (q .above))) i))
+
+pub exponent-none : (q : Fraction) → q ≼ null → exponentOf q ≡ none
+unfolding exponentOf
+exponent-none q h = rw (is-false (ltb (q .minus) (q .plus)) (le→nltb (q .minus) (q .plus) (omega (arith, h))))
 
 exponent-convex : {lo q hi : Fraction} (e : ℤ) → lo ≼ q → q ≼ hi → exponentOf lo ≡ some e → exponentOf hi ≡ some e → exponentOf q ≡ some e
 exponent-convex {lo} {q} {hi} e h k p r = exponent-is q e (record { low = ≼-trans (exponent-in lo e p .low) h; high = ≼-≺-trans k (exponent-in hi e r .high) })

@@ -48,6 +48,16 @@ same-value (fin t m e) (fin r n d) s a c C f g v w =
     cross : (x y d g : ℕ) → x * c ≡ a * d → y * c ≡ a * g → x * g ≡ y * d
     cross x y d g h k = eq-of-mul-eq-mul-right c C (x * g) (y * d) (mul-right-comm x g c ∙ ap (λ (z : ℕ). z * g) h ∙ mul-right-comm a d g ∙ ap (λ (z : ℕ). z * d) (sym k) ∙ mul-right-comm y c d)
 
+-- a / c is b / d
+pub rescale : (x : Float) (s : Bool) (a c b d : ℕ) → 0 < c → b * c ≡ a * d → HasValue x s a c → HasValue x s b d
+rescale nan s a c b d C h v = v
+rescale (inf t) s a c b d C h v = v
+rescale (fin t m e) s a c b d C h v = (
+  v .0,
+  eq-of-mul-eq-mul-right c C (m * up e * d) (b * down e)
+      (mul-right-comm (m * up e) d c ∙ ap (λ (x : ℕ). x * d) (v .1) ∙ mul-right-comm a (down e) d ∙ ap (λ (x : ℕ). x * down e) (sym h) ∙ mul-right-comm b c (down e)),
+)
+
 -- above zero the value tells the sign too
 pub one-of-value : (x y : Float) → T (fits binary64 x) → T (fits binary64 y) → T (finite x) → T (finite y) → null ≺ value y → value y ≼ value x → value x ≼ value y → x ≡ y
 one-of-value nan y f g p q z h i = absurd p

@@ -3,6 +3,7 @@ pub mod Fraction
 pub mod Value
 pub mod Rounding
 pub mod Next
+pub mod Zero
 pub mod Cases
 pub mod Tests
 pub mod Exact

@@ -28,7 +28,7 @@ unfolding nextDown
 nextDown-fits f x = ofBits-fits f (bitsDown f (toBits f x))
 
 -- ---- the magnitude of a pattern without its sign, in units of the smallest value: by the exponent's field and the digits, h being the weight of the leading digit
-abbrev steps : ℕ → ℕ → ℕ → ℕ
+abbrev pub steps : ℕ → ℕ → ℕ → ℕ
 steps h zero t = t * 1
 steps h (suc k) t = (h + t) * 2 ^ k
 
@@ -83,7 +83,7 @@ read-minus f c h =
     ∙ ap₂ (λ (s : Bool) (y : ℕ). ofFields f s (y / hid f) ((top f + c) % hid f)) (is-true (leb (top f) (top f + c)) (le→leb (top f) (top f + c) (le-add-right (top f) c))) (add-mod-left (top f) c ∙ mod-eq-of-lt h)
     ∙ ap (λ (y : ℕ). ofFields f true (c / hid f) y) (mul-add-mod-self-left (hid f) (suc (ones f)) c)
 
-fields-value : (f : Format) (s : Bool) (x t : ℕ) → T (finite (ofFields f s x t)) → HasValue (ofFields f s x t) s (steps (hid f) x t) (2 ^ low f)
+pub fields-value : (f : Format) (s : Bool) (x t : ℕ) → T (finite (ofFields f s x t)) → HasValue (ofFields f s x t) s (steps (hid f) x t) (2 ^ low f)
 unfolding ofFields
 fields-value f s zero t h = odd-sign (prec f) s t 0 (low f)
 fields-value f s (suc x) t h = go (eqb (suc x) (ones f)) (eqb t 0) h
@@ -108,7 +108,7 @@ pub hid-pos : (f : Format) → 0 < hid f
 hid-pos f = pow-pos (prec f - 1)
 
 -- so the next pattern is an infinity's at most, and has the same sign
-below-inf : (f : Format) (s : Bool) (c : ℕ) → c < top f → T (finite (ofFields f s (c / hid f) (c % hid f))) → suc c ≤ ones f * hid f
+pub below-inf : (f : Format) (s : Bool) (c : ℕ) → c < top f → T (finite (ofFields f s (c / hid f) (c % hid f))) → suc c ≤ ones f * hid f
 below-inf f s c h p =
     let x-le : c / hid f < suc (ones f) = div-lt-iff-lt-mul (hid-pos f) .1 (omega (arith, h)) in
     let x-lt : c / hid f < ones f = lt-of-le-ne (le-of-suc-le-suc x-le) (fields-not-ones f s (c / hid f) (c % hid f) p) in
@@ -254,7 +254,7 @@ nextDown-under f (inf true) h n k = absurd (subst (λ (y : Float). T (finite y))
 nextDown-under f (fin s m e) h n k = ≺→not-le (nextDown f (fin s m e)) (fin s m e) k tt (nextDown-lt f (fin s m e) h tt k)
 
 -- ---- a program may read the next pattern: it is none of a NaN
-real-plus : (f : Format) (c : ℕ) → c < top f → c ≤ ones f * hid f → T (not (nanBits f c))
+pub real-plus : (f : Format) (c : ℕ) → c < top f → c ≤ ones f * hid f → T (not (nanBits f c))
 real-plus f c h k = subst (λ (b : Bool). T (not b)) (sym (nanBits-above f c ∙ ap (ltb (ones f * hid f)) (mod-eq-of-lt h))) (le→nltb (ones f * hid f) c k)
 
 real-minus : (f : Format) (c : ℕ) → c < top f → c ≤ ones f * hid f → T (not (nanBits f (top f + c)))

@@ -1,16 +1,16 @@
 -- The tests of the definitions, as a program makes them: by comparing doubles.
 use mathlib.Core.Path.{_≡_, refl, sym, ap, subst, _∙_}
 use native.Mathlib.Omega.{arith}
-use mathlib.Core.Bool.{Bool, true, false, not, _&&_}
+use mathlib.Core.Bool.{Bool, true, false, not, _&&_, false≢true}
 use mathlib.Core.Logic.{_⊎_, inl, inr}
 use lib.Dec.{T, not-T, T-not}
 use lib.IntN.{pos}
 use lib.Ieee.{Float, nan, inf, fin, binary64, ofBits, lt, le, eq, sub, div}
 use lib.Ieee.Scale.{finite}
-use Rattle.arithmetic.specs.Fraction.{_≺?_, _⊕_, opp}
+use lib.Ieee.Bits.{is-true}
+use Rattle.arithmetic.specs.Fraction.{_≼_, _≺?_, _⊕_, opp}
 use Rattle.arithmetic.specs.Value.{value}
 use Rattle.arithmetic.specs.Basic.{below, above, passes}
-use Rattle.arithmetic.specs.Doubles.{whereFinite}
 use Rattle.arithmetic.proofs.Fraction.{≺?→≺, ≺→≺?, ≺-not-≼, ≼-or-≻}
 use Rattle.arithmetic.proofs.Value.{lt→≺, ≺→lt, le→≼, ≼→le}
 use Rattle.arithmetic.proofs.Rounding.{sub-is, rounded-zero}
@@ -30,6 +30,10 @@ module _ (x y : Float) (p : T (finite x)) (q : T (finite y)) where
   le-is = iff (le x y) (not (lt y x))
       (λ t. not-T (lt y x) (λ u. ≺-not-≼ (lt→≺ y x q p u) (le→≼ x y p q t)))
       (λ t. elim (≼-or-≻ (value x) (value y)) [ inl h ↦ ≼→le x y p q h | inr h ↦ absurd (T-not (lt y x) t (≺→lt y x q p h)) ])
+
+  -- where x is not below y
+  pub not-below : lt x y ≡ false → value y ≼ value x
+  not-below h = elim (≼-or-≻ (value y) (value x)) [ inl k ↦ k | inr k ↦ absurd (false≢true (sym h ∙ is-true (lt x y) (≺→lt x y p q k))) ]
 
 pub below-is : (x c : Float) → T (finite x) → T (finite c) → passes (below c) (value x) ≡ lt x c
 below-is x c p q = ≺?-is x c p q
@@ -53,20 +57,10 @@ finite-is (fin s m e) = ap (λ (y : Float). eq y (fin false 0 (pos 0))) (sub-is 
     zeros true = refl
     zeros false = refl
 
--- ---- how a program writes NaN, and returns it where a test of what is finite fails
+-- ---- how a program writes NaN
 abbrev pub zeroByZero : Float
 zeroByZero = div binary64 (ofBits binary64 0) (ofBits binary64 0)
 
 pub zero-by-zero : zeroByZero ≡ nan
 unfolding div ofBits
 zero-by-zero = refl
-
-module _ (b : Bool) (x y : Float) (e : b ≡ finite x) where
-  pub where-then : b ≡ true → y ≡ whereFinite x y
-  where-then t = rw (← e, t) refl
-
-  pub where-else : b ≡ false → zeroByZero ≡ whereFinite x y
-  where-else t = rw (← e, t) zero-by-zero
-
-pub is-so : (b : Bool) (x : Float) → b ≡ finite x → b ≡ true → T (finite x)
-is-so b x e t = subst T (sym (sym e ∙ t)) tt

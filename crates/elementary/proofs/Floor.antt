@@ -80,7 +80,6 @@ module _ (M d c : ℕ) (D : 0 < d) (small : M ≤ 1024 * d) (lo : c * d ≤ M) (
       go (suc k) h = lt→ltb k (2 ^ 53) (omega arith)
   float false = le→leb c (2 ^ 53) (omega (arith, few))
 
-
 pub whole-part : (x : Float) → Bounded x → WholePart x (toSigned 63 x)
 unfolding toSigned
 whole-part nan h = absurd (h .0)

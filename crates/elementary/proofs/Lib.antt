@@ -2,3 +2,6 @@
 pub mod Floor
 pub mod Place
 pub mod PowerOfTwo
+pub mod Patterns
+pub mod Reduction
+pub mod Words

@@ -1,17 +1,16 @@
 -- For a v from -700 to 700, v × E + 0.5 lies well within the exponents of normal doubles: rounding keeps the order, so its ends tell.
 use mathlib.Core.Path.{_≡_, refl, sym, subst, _∙_}
 use mathlib.Core.Bool.{Bool, true, false, true≢false, false≢true}
-use mathlib.Core.Logic.{_⊎_, inl, inr}
 use lib.Dec.{T, leb→le}
 use lib.IntN.{pos, negsuc}
 use lib.Ieee.{Float, nan, inf, fin, binary64, add, mul, le, lt, neg, ofBits, round, sum}
-use lib.Ieee.Bits.{is-true}
 use lib.Ieee.Scale.{finite}
 use Rattle.arithmetic.specs.Fraction.{_≼_, _≺_, null, whole}
 use Rattle.arithmetic.specs.Value.{value}
 use Rattle.arithmetic.specs.Constants.{E, half, sevenHundred, minusSevenHundred}
-use Rattle.arithmetic.proofs.Fraction.{≼-trans, ≼-≺-trans, ≼-or-≻}
-use Rattle.arithmetic.proofs.Value.{le→≼, ≺→lt, finite-between}
+use Rattle.arithmetic.proofs.Fraction.{≼-trans, ≼-≺-trans}
+use Rattle.arithmetic.proofs.Value.{le→≼, finite-between}
+use Rattle.arithmetic.proofs.Tests.{not-below}
 use Rattle.arithmetic.proofs.Exact.{add-mono, mul-mono}
 use Rattle.elementary.proofs.Floor.{Bounded}
 
@@ -21,9 +20,6 @@ limited-finite nan a b = false≢true b
 limited-finite (inf true) a b = true≢false a
 limited-finite (inf false) a b = false≢true b
 limited-finite (fin s m e) a b = tt
-
-not-below : (x y : Float) → T (finite x) → T (finite y) → lt x y ≡ false → value y ≼ value x
-not-below x y p q h = elim (≼-or-≻ (value y) (value x)) [ inl k ↦ k | inr k ↦ absurd (false≢true (sym h ∙ is-true _ (≺→lt x y p q k))) ]
 
 -- the place of the least and of the greatest v
 abbrev pub place : Float → Float

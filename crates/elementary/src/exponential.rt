@@ -1,6 +1,7 @@
 // exp, powf and tanh by the recipes of document 01.
+use crate::basic::div;
 use crate::basic::is_finite;
-
+use crate::logarithm::ln;
 ghost use mathlib.Core.Path.{_≡_};
 ghost use mathlib.Core.Bool.{false};
 ghost use lib.Dec.{T};
@@ -88,6 +89,41 @@ pub fn exp(v: f64) -> f64
     }
     if v <= 700.0 {
         return exp_of(v, floor(v * E + 0.5));
+    }
+    0.0 / 0.0
+}
+
+// v^b, as exp(b * ln v). A base of 0 gives 0 where b is above 0; for any other base that is not above 0 there is no rule.
+pub fn powf(v: f64, b: f64) -> f64
+    ensures { λ r. ⌜ r ≡ guarded .powf v b ⌝ }
+{
+    if v > 0.0 {
+        return exp(b * ln(v));
+    }
+    if v < 0.0 {
+        return 0.0 / 0.0;
+    }
+    if is_finite(v) {
+        if b > 0.0 {
+            if is_finite(b) {
+                return 0.0;
+            }
+        }
+    }
+    0.0 / 0.0
+}
+
+pub fn tanh(v: f64) -> f64
+    ensures { λ r. ⌜ r ≡ guarded .tanh v ⌝ }
+{
+    if is_finite(v) {
+        if v > 20.0 {
+            return 1.0;
+        }
+        if v < -20.0 {
+            return -1.0;
+        }
+        return 1.0 - div(2.0, exp(2.0 * v) + 1.0);
     }
     0.0 / 0.0
 }

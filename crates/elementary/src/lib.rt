@@ -2,5 +2,7 @@
 // What has no rule, and an argument that is not finite, gives NaN: no public function asks anything of its caller.
 pub mod basic;
 pub mod exponential;
+pub mod logarithm;
+pub mod parts;
 
 pub use basic::is_finite;

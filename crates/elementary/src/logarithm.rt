@@ -1,0 +1,117 @@
+// ln and ln_1p by the recipes of document 01.
+use crate::basic::div;
+use crate::basic::is_finite;
+use crate::parts::parts;
+ghost use mathlib.Core.Path.{_≡_};
+ghost use mathlib.Core.Option.{some};
+ghost use Prim.Native.Nat.{_<_};
+ghost use lib.Dec.{T};
+ghost use lib.IntN.{negℤ};
+ghost use lib.Ieee.{binary64, ofBits, inFloat};
+ghost use Rattle.arithmetic.specs.Value.{value};
+ghost use Rattle.arithmetic.specs.Cases.{exponentOf};
+ghost use Rattle.arithmetic.specs.Constants as K;
+ghost use Rattle.arithmetic.specs.Recipes as R;
+ghost use Rattle.arithmetic.specs.Doubles.{plain, guarded, scaled};
+
+// ln 2.
+const L: f64 = 0.6931471805599453;
+
+// 1/(2k+1), k 0 to 12.
+const ODDS: [f64; 13] = [
+    1.0,
+    0.3333333333333333,
+    0.2,
+    0.14285714285714285,
+    0.1111111111111111,
+    0.09090909090909091,
+    0.07692307692307693,
+    0.06666666666666667,
+    0.058823529411764705,
+    0.05263157894736842,
+    0.047619047619047616,
+    0.043478260869565216,
+    0.04,
+];
+
+// Horner in z over 1/(2k+1).
+fn odd_series(z: f64) -> f64
+    ensures { λ r. ⌜ r ≡ R.horner plain z K.one K.oddReciprocals ⌝ }
+{
+    let p = ((ODDS[12] * z + ODDS[11]) * z + ODDS[10]) * z + ODDS[9];
+    let p = (((p * z + ODDS[8]) * z + ODDS[7]) * z + ODDS[6]) * z + ODDS[5];
+    let p = (((p * z + ODDS[4]) * z + ODDS[3]) * z + ODDS[2]) * z + ODDS[1];
+    p * z + ODDS[0]
+}
+
+// (2s) * p.
+fn series(s: f64) -> f64
+    ensures { λ r. ⌜ r ≡ R.series plain s ⌝ }
+{
+    2.0 * s * odd_series(s * s)
+}
+
+// m * 2^e with 0.75 <= m < 1.5.
+pub struct Reduced {
+    pub m: f64,
+    pub e: i64,
+}
+
+// The m and the e of a positive finite double, by its pattern.
+fn split(b: u64) -> Reduced
+    requires { ⌜ (0 < b) × (b < 0x7ff0_0000_0000_0000) ⌝ }
+    ensures { λ r. ⌜ (exponentOf (value (ofBits binary64 b)) ≡ some (r .e)) × (scaled (ofBits binary64 b) (negℤ (r .e)) ≡ r .m) × T (inFloat binary64 (r .e)) ⌝ }
+{
+    let p = parts(b);
+    if p.sig < 0x18_0000_0000_0000 {
+        Reduced {
+            m: f64::from_bits(p.sig + 0x3fe0_0000_0000_0000),
+            e: p.exp as i64 - 1074,
+        }
+    } else {
+        Reduced {
+            m: f64::from_bits(p.sig + 0x3fd0_0000_0000_0000),
+            e: p.exp as i64 - 1073,
+        }
+    }
+}
+
+// ln of m * 2^e.
+fn ln_of(m: f64, e: i64) -> f64
+    requires { ⌜ T (inFloat binary64 e) ⌝ }
+    ensures { λ r. ⌜ r ≡ R.lnOf plain m e ⌝ }
+{
+    series(div(m - 1.0, m + 1.0)) + e as f64 * L
+}
+
+// The natural logarithm of v above 0.
+pub fn ln(v: f64) -> f64
+    ensures { λ r. ⌜ r ≡ guarded .ln v ⌝ }
+{
+    if v > 0.0 {
+        if is_finite(v) {
+            let p = split(f64::to_bits(v));
+            return ln_of(p.m, p.e);
+        }
+    }
+    0.0 / 0.0
+}
+
+// The natural logarithm of 1 + v, v above -1.
+pub fn ln_1p(v: f64) -> f64
+    ensures { λ r. ⌜ r ≡ guarded .ln1p v ⌝ }
+{
+    if is_finite(v) {
+        if v < -0.25 {
+            if v > -1.0 {
+                return ln(1.0 + v);
+            }
+            return 0.0 / 0.0;
+        }
+        if v > 0.25 {
+            return ln(1.0 + v);
+        }
+        return series(div(v, 2.0 + v));
+    }
+    0.0 / 0.0
+}
