@@ -1,5 +1,5 @@
-//! Reads the Rust text that is ported and writes it to OUT_DIR, changed by the table below and by
-//! nothing else. No part of that text stands in this repository.
+//! Reads the Rust text that is ported and writes it to OUT_DIR, changed as `table` says and in no
+//! other way. The text itself never comes into this repository.
 
 mod scan;
 mod table;
@@ -28,15 +28,16 @@ fn seed_directory() -> PathBuf {
 fn read(path: &Path) -> String {
     println!("cargo::rerun-if-changed={}", path.display());
     fs::read_to_string(path).unwrap_or_else(|error| {
-        panic!(
-            "the ported Rust is missing: {}: {error}. NODDYFIR_SEED names its directory docs/src.",
-            path.display()
-        )
+        let path = path.display();
+        println!("cargo::error=the ported Rust is missing: {path}: {error}");
+        println!("cargo::error=NODDYFIR_SEED may name the directory docs/src that holds it");
+        std::process::exit(1)
     })
 }
 
 fn write(path: &Path, text: &str) {
-    fs::create_dir_all(path.parent().expect("a file has a directory")).expect("OUT_DIR is writable");
+    fs::create_dir_all(path.parent().expect("a file has a directory"))
+        .expect("OUT_DIR is writable");
     fs::write(path, text).expect("OUT_DIR is writable");
 }
 
@@ -53,7 +54,9 @@ fn rewritten(file: &str, text: &str) -> String {
     if file == table::KEPT.0 {
         text = between(&text, table::KEPT.1, table::KEPT.2);
     }
-    text = text.replace("std::f64::consts", "crate::consts");
+    for (from, to) in table::PATHS {
+        text = text.replace(from, to);
+    }
     let root = root_from(file);
     // At the end, since a file may begin with inner doc comments.
     scan::substitute(&text, &root) + &format!("\nuse {root}::Number;\n")

@@ -4,7 +4,7 @@
 pub const SEED: &str = "../../shared/docs/src";
 
 /// The files that are compiled.
-pub const FILES: [&str; 12] = [
+pub const FILES: [&str; 13] = [
     "hard_sphere/mod.rs",
     "uvtheory/parameters.rs",
     "uvtheory/eos/mod.rs",
@@ -29,6 +29,9 @@ pub const ADDED: [(&str, &str); 2] = [
          WeeksChandlerAndersen, WeeksChandlerAndersenB3};\n",
     ),
 ];
+
+/// Paths, in every file; what `crate` stands for is said below.
+pub const PATHS: [(&str, &str); 1] = [("std::f64::consts", "crate::consts")];
 
 /// Whole words, in every file. The word `crate` becomes the path to the including module, and a
 /// decimal literal `x`, with a sign directly before it, becomes `Number::point(x)`.

@@ -1,0 +1,30 @@
+//! The Rust that Noddyfir ports, compiled over doubles and over ranges, with document 01's records,
+//! answers and runs around it.
+
+pub mod answer;
+pub mod constants;
+pub mod double;
+pub mod failure;
+pub mod generator;
+pub mod program;
+pub mod random;
+pub mod range;
+pub mod record;
+pub mod run;
+pub mod stored;
+
+pub mod shims;
+
+/// The ported text over doubles.
+#[allow(dead_code, unused_imports, unfulfilled_lint_expectations, clippy::duplicate_mod)]
+pub mod over_doubles {
+    use crate::double::Double as Number;
+    include!("contributions.rs");
+}
+
+/// The ported text over ranges.
+#[allow(dead_code, unused_imports, unfulfilled_lint_expectations, clippy::duplicate_mod)]
+pub mod over_ranges {
+    use crate::range::Range as Number;
+    include!("contributions.rs");
+}

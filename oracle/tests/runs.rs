@@ -1,0 +1,105 @@
+//! Runs, and the two programs on standard input.
+
+use oracle::run::{Run, run_ends, run_energies};
+use oracle::{generator, random::Random, stored};
+use std::io::Write;
+use std::process::{Command, Stdio};
+
+const SEVEN_BYTES: [u8; 7] = [0, 0, 0, 3, 1, 0, 0];
+
+#[test]
+fn the_seven_byte_run() {
+    let mut answers = [0xAA; 64];
+    let run = run_energies(&SEVEN_BYTES, &mut answers);
+    assert_eq!(run, Run { records: 2, read: 7, written: 8, reason: 0 });
+    assert_eq!(answers[..9], [0, 2, 1, 2, 0, 2, 1, 5, 0xAA]);
+    assert_eq!(run_ends(&SEVEN_BYTES, &mut answers), run);
+}
+
+#[test]
+fn reasons_in_their_order() {
+    let reason = |records: &[u8], room| run_energies(records, &mut vec![0; room]).reason;
+    assert_eq!(reason(&[], 0), 0);
+    assert_eq!(reason(&[0], 0), 2);
+    assert_eq!(reason(&[0, 1], 0), 2);
+    assert_eq!(reason(&[0, 0], 27), 1);
+    assert_eq!(reason(&[0, 0], 28), 0);
+    // A refusal takes four bytes, but needs the room of a whole answer.
+    let run = run_energies(&[0; 4], &mut [0; 31]);
+    assert_eq!(run, Run { records: 1, read: 2, written: 4, reason: 1 });
+}
+
+#[test]
+fn a_run_resumed_for_space_gives_the_same_answers() {
+    let records = stored::records();
+    let mut whole = vec![0; 65_536];
+    let all = run_energies(&records, &mut whole);
+    let mut resumed = Vec::new();
+    let (mut read, mut answers) = (0, [0; 61]);
+    while read < records.len() {
+        let run = run_energies(&records[read..], &mut answers);
+        resumed.extend_from_slice(&answers[..run.written]);
+        read += run.read;
+    }
+    assert_eq!(resumed, whole[..all.written]);
+}
+
+fn program(path: &str, arguments: &[&str], input: &[u8]) -> Vec<u8> {
+    let mut child = Command::new(path)
+        .args(arguments)
+        .stdin(Stdio::piped())
+        .stdout(Stdio::piped())
+        .spawn()
+        .expect("the program starts");
+    let mut stdin = child.stdin.take().expect("its input is piped");
+    let input = input.to_vec();
+    // The program may stop reading before its input ends.
+    let writer = std::thread::spawn(move || _ = stdin.write_all(&input));
+    let output = child.wait_with_output().expect("the program ends");
+    writer.join().expect("the input is written");
+    assert!(output.status.success());
+    output.stdout
+}
+
+#[test]
+fn programs() {
+    let paths = [env!("CARGO_BIN_EXE_energies"), env!("CARGO_BIN_EXE_ends")];
+    for path in paths {
+        assert_eq!(program(path, &[], &SEVEN_BYTES), [0, 2, 1, 2, 0, 2, 1, 5]);
+        let broken = [&SEVEN_BYTES[..], &[0, 9, 1]].concat();
+        assert_eq!(program(path, &[], &broken), [0, 2, 1, 2, 0, 2, 1, 5]);
+        assert_eq!(program(path, &[], &[0]), []);
+        // 65,536 bytes are 32,768 of the empty records.
+        assert_eq!(program(path, &[], &[0; 70_000]).len(), 4 * 32_768);
+        assert_eq!(program(path, &["--all"], &[0; 70_000]).len(), 4 * 35_000);
+    }
+}
+
+#[test]
+fn the_stored_list_fits_a_run() {
+    let records = stored::records();
+    assert!(records.len() <= 65_536);
+    let answers = program(env!("CARGO_BIN_EXE_ends"), &[], &records);
+    let codes: Vec<u8> = answers_in(&answers).map(|answer| answer[3]).collect();
+    assert!((2..=10).chain([0]).all(|code| codes.contains(&code)));
+}
+
+/// Splits a sequence of records or answers.
+fn answers_in(mut bytes: &[u8]) -> impl Iterator<Item = &[u8]> {
+    std::iter::from_fn(move || {
+        let size = 2 + u16::from_be_bytes(*bytes.first_chunk()?) as usize;
+        let (first, rest) = bytes.split_at(size);
+        bytes = rest;
+        Some(first)
+    })
+}
+
+#[test]
+fn generated_records_are_whole() {
+    for (name, kind) in generator::KINDS {
+        let mut random = Random::new(3);
+        let records: Vec<u8> = (0..200).flat_map(|_| kind(&mut random)).collect();
+        let run = run_energies(&records, &mut vec![0; 200 * 28]);
+        assert_eq!((run.records, run.reason), (200, 0), "{name}");
+    }
+}
