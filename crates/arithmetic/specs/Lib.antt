@@ -9,4 +9,5 @@ pub mod Constants
 pub mod Basic
 pub mod Recipes
 pub mod Arithmetic
+pub mod Sums
 pub mod Doubles

@@ -1,0 +1,75 @@
+-- Every relation that the operations keep is kept by the three energies of each perturbation: the formulas, worked in `both`, are the proof.
+use Prim.Native.Nat.{ℕ}
+use mathlib.Core.Bool.{Bool, true, false, cond}
+use lib.Dec.{eqb, ltb}
+use Rattle.arithmetic.specs.Arithmetic.{Arithmetic}
+use Rattle.arithmetic.proofs.Both.{Both, bothOf, Kept, both}
+use Rattle.uvtheory.specs.Literals.{half, one, six}
+use Rattle.uvtheory.specs.Contributions.{Contributions}
+use Rattle.uvtheory.specs.Parameters.{UVTheoryPars, State, combined, new, mie-prefactor, mean-field-constant, bh-alpha, bh-coefficients}
+use Rattle.uvtheory.specs.HardSphere as S
+use Rattle.uvtheory.specs.PackingFraction as P
+use Rattle.uvtheory.specs.OneFluid as O
+use Rattle.uvtheory.specs.Tables as T
+use Rattle.uvtheory.specs.Bh as Bh
+use Rattle.uvtheory.specs.Bh.HardSphere as BhS
+use Rattle.uvtheory.specs.Bh.ReferencePerturbation as BhR
+use Rattle.uvtheory.specs.Bh.AttractivePerturbation as BhA
+use Rattle.uvtheory.specs.Wca as Wca
+use Rattle.uvtheory.specs.Wca.HardSphere as WcaS
+use Rattle.uvtheory.specs.Wca.ReferencePerturbation as WcaR
+use Rattle.uvtheory.specs.Wca.AttractivePerturbation as WcaA
+use Rattle.uvtheory.specs.Wca.AttractivePerturbationUvb3 as B3A
+
+module _ (A B : Arithmetic) (R : A .Value → B .Value → Type 0) (K : Kept A B R) where
+  abbrev AB : Arithmetic
+  AB = both A B R K
+
+  combined-kept : {f : ℕ → ℕ → A .Value} {g : ℕ → ℕ → B .Value} (pure : ℕ → Both R) → ((i j : ℕ) → R (f i j) (g i j)) → (i j : ℕ) → R (combined (λ k. pure k .left) f i j) (combined (λ k. pure k .right) g i j)
+  combined-kept {f} {g} pure h i j = go (eqb i j) (ltb i j)
+    where
+      go : (b c : Bool) → R (cond b (pure i .left) (cond c (f i j) (f j i))) (cond b (pure i .right) (cond c (g i j) (g j i)))
+      go true c = pure i .holds
+      go false true = h i j
+      go false false = h j i
+
+  -- the parameters and the state of two meanings
+  module _ (n : ℕ) (rep att sigma epsilon-k : ℕ → Both R) (k-ij : ℕ → ℕ → Both R) where
+    abbrev pars : UVTheoryPars (Both R)
+    pars = record {
+      n = n;
+      rep = rep;
+      att = att;
+      sigma = sigma;
+      epsilon-k = epsilon-k;
+      rep-ij = λ i j. bothOf R (combined-kept rep (λ i j. K .sqrt (K .mul (rep i .holds) (rep j .holds))) i j);
+      att-ij = λ i j. bothOf R (combined-kept att (λ i j. K .sqrt (K .mul (att i .holds) (att j .holds))) i j);
+      sigma-ij = λ i j. bothOf R (combined-kept sigma (λ i j. K .mul (K .constant half) (K .add (sigma i .holds) (sigma j .holds))) i j);
+      eps-k-ij = λ i j. bothOf R (combined-kept epsilon-k (λ i j. K .mul (K .sub (K .constant one) (k-ij i j .holds)) (K .sqrt (K .mul (epsilon-k i .holds) (epsilon-k j .holds)))) i j);
+      cd-bh-pure = λ i. bh-coefficients AB (rep i) (AB .constant six);
+    }
+
+    abbrev left : UVTheoryPars (A .Value)
+    left = new A n (λ i. rep i .left) (λ i. att i .left) (λ i. sigma i .left) (λ i. epsilon-k i .left) (λ i j. k-ij i j .left)
+
+    abbrev right : UVTheoryPars (B .Value)
+    right = new B n (λ i. rep i .right) (λ i. att i .right) (λ i. sigma i .right) (λ i. epsilon-k i .right) (λ i j. k-ij i j .right)
+
+    module _ (s : State (Both R)) where
+      abbrev sl : State (A .Value)
+      sl = record { temperature = s .temperature .left; partial-density = λ i. s .partial-density i .left; molefracs = λ i. s .molefracs i .left }
+
+      abbrev sr : State (B .Value)
+      sr = record { temperature = s .temperature .right; partial-density = λ i. s .partial-density i .right; molefracs = λ i. s .molefracs i .right }
+
+      wca-sphere : R (Wca.residual-helmholtz-energy-contributions A left sl .hard-sphere) (Wca.residual-helmholtz-energy-contributions B right sr .hard-sphere)
+      unfolding S.helmholtz-energy-density S.bmcsl S.weighted-zeta WcaS.diameter-wca WcaS.diameter-of WcaS.rm-of
+      wca-sphere = (Wca.residual-helmholtz-energy-contributions AB pars s .hard-sphere) .holds
+
+      wca-reference : R (Wca.residual-helmholtz-energy-contributions A left sl .reference) (Wca.residual-helmholtz-energy-contributions B right sr .reference)
+      unfolding WcaR.helmholtz-energy-density WcaR.term-ij WcaR.term WcaS.diameter-wca WcaS.diameter-of WcaS.rm-of WcaS.dimensionless-diameter-q-wca WcaS.coefficient-q WcaS.dimensionless-length-scale WcaS.tau P.packing-fraction P.packing-fraction-a P.packing-fraction-b
+      wca-reference = (Wca.residual-helmholtz-energy-contributions AB pars s .reference) .holds
+
+      b3-attractive : R (Wca.residual-helmholtz-energy-contributions-b3 A left sl .attractive) (Wca.residual-helmholtz-energy-contributions-b3 B right sr .attractive)
+      unfolding B3A.helmholtz-energy-density B3A.energy B3A.residual-third-virial-coefficient B3A.delta-b3 B3A.b30-uv B3A.ten-volumes B3A.b3-term B3A.delta-b31u B3A.residual-virial-coefficient B3A.delta-b2 B3A.sum-beta B3A.coefficient-rsap B3A.u-fraction-wca WcaA.delta-a1u WcaA.delta-b12u WcaA.correlation-integral-wca WcaA.coefficient WcaS.diameter-wca WcaS.diameter-of WcaS.rm-of WcaS.dimensionless-diameter-q-wca WcaS.coefficient-q mie-prefactor mean-field-constant O.mean-cube O.virial-sum O.pair-mean O.cube-root
+      b3-attractive = (Wca.residual-helmholtz-energy-contributions-b3 AB pars s .attractive) .holds

@@ -1,0 +1,2 @@
+-- The laws of the formulas.
+pub mod Kept

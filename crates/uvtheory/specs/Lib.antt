@@ -1,0 +1,12 @@
+-- The formulas of the Rust, written once over any arithmetic, in its names and order; and its coefficient tables.
+pub mod Tables
+pub mod Digits
+pub mod Factorials
+pub mod Literals
+pub mod Parameters
+pub mod Contributions
+pub mod HardSphere
+pub mod PackingFraction
+pub mod OneFluid
+pub mod Bh
+pub mod Wca

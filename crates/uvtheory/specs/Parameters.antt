@@ -1,0 +1,70 @@
+-- uvtheory/parameters.rs: the combined parameters of a mixture, and `mie_prefactor`, `mean_field_constant` and `bh_coefficients`.
+use Prim.Native.Nat.{ℕ, zero, suc}
+use mathlib.Core.Bool.{cond}
+use lib.Dec.{ltb, eqb}
+use Rattle.arithmetic.specs.Arithmetic.{Arithmetic}
+use Rattle.uvtheory.specs.Literals.{half, one, three, six, seven, minusTwo}
+use Rattle.uvtheory.specs.Tables.{CD-BH}
+
+-- `UVTheoryPars`: functions of the component's number stand for vectors and matrices. `cd_bh_binary` is left out, since no energy reads it.
+pub record UVTheoryPars (X : Type 0) : Type 0 where
+  pub n : ℕ
+  pub rep : ℕ → X
+  pub att : ℕ → X
+  pub sigma : ℕ → X
+  pub epsilon-k : ℕ → X
+  pub rep-ij : ℕ → ℕ → X
+  pub att-ij : ℕ → ℕ → X
+  pub sigma-ij : ℕ → ℕ → X
+  pub eps-k-ij : ℕ → ℕ → X
+  pub cd-bh-pure : ℕ → ℕ → X
+
+-- feos_core's `StateHD`
+pub record State (X : Type 0) : Type 0 where
+  pub temperature : X
+  pub partial-density : ℕ → X
+  pub molefracs : ℕ → X
+
+-- A matrix whose diagonal is given, and that is worked for i below j and copied.
+abbrev pub combined : {X : Type 0} → (ℕ → X) → (ℕ → ℕ → X) → ℕ → ℕ → X
+combined pure f i j = cond (eqb i j) (pure i) (cond (ltb i j) (f i j) (f j i))
+
+module _ (A : Arithmetic) where
+  open Arithmetic A using (Value, constant, add as _+_, sub as _-_, mul as _*_, div as _/_, neg as -_, sqrt, powf)
+
+  infixl 60 _+_ _-_
+  infixl 70 _*_ _/_
+  infix 80 -_
+  unfoldable pub mie-prefactor : Value → Value → Value
+  mie-prefactor rep att = rep / (rep - att) * powf (rep / att) (att / (rep - att))
+
+  unfoldable pub mean-field-constant : Value → Value → Value → Value
+  mean-field-constant rep att x =
+      mie-prefactor rep att * (powf x (- att + constant three) / (att - constant three) - powf x (- rep + constant three) / (rep - constant three))
+
+  -- The coefficients 1 to 4 are `CD_BH` times (1, alpha, alpha²).
+  unfoldable pub bh-alpha : Value → Value → Value
+  bh-alpha rep att =
+      constant one / mean-field-constant rep att (constant one)
+      - constant one / mean-field-constant (constant seven) att (constant one)
+
+  unfoldable pub bh-coefficients : Value → Value → ℕ → Value
+  bh-coefficients rep att zero = constant minusTwo * rep / ((att - rep) * mie-prefactor rep att)
+  bh-coefficients rep att (suc k) =
+      let alpha = bh-alpha rep att in
+      constant (CD-BH k 0) * constant one + constant (CD-BH k 1) * alpha + constant (CD-BH k 2) * (alpha * alpha)
+
+  -- `UVTheoryPars::new`
+  abbrev pub new : ℕ → (ℕ → Value) → (ℕ → Value) → (ℕ → Value) → (ℕ → Value) → (ℕ → ℕ → Value) → UVTheoryPars Value
+  new n rep att sigma epsilon-k k-ij = record {
+    n = n;
+    rep = rep;
+    att = att;
+    sigma = sigma;
+    epsilon-k = epsilon-k;
+    rep-ij = combined rep (λ i j. sqrt (rep i * rep j));
+    att-ij = combined att (λ i j. sqrt (att i * att j));
+    sigma-ij = combined sigma (λ i j. constant half * (sigma i + sigma j));
+    eps-k-ij = combined epsilon-k (λ i j. (constant one - k-ij i j) * sqrt (epsilon-k i * epsilon-k j));
+    cd-bh-pure = λ i. bh-coefficients (rep i) (constant six);
+  }

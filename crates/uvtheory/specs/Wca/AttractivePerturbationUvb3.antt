@@ -1,0 +1,127 @@
+-- uvtheory/eos/wca/attractive_perturbation_uvb3.rs: the attractive perturbation of WCA-B3. `C_WCA`, `delta_b12u`, `correlation_integral_wca` and `coefficients_wca` are
+-- those of attractive_perturbation.rs, word for word; `u_fraction_wca` and `delta_b2` are its own.
+use Prim.Native.Nat.{ℕ, zero, suc, _+_ as _+ℕ_}
+use Rattle.arithmetic.specs.Arithmetic.{Arithmetic}
+use Rattle.arithmetic.specs.Sums.{recip}
+use Rattle.uvtheory.specs.Literals as N
+use Rattle.uvtheory.specs.Tables.{C-WCA, C-B2-RSAP, K-LJ-B3, P-B3, L-B3, M-B3, CU-WCA-UVB3, WCA-CONSTANTS-ETA-A-UVB3, WCA-CONSTANTS-ETA-B-UVB3}
+use Rattle.uvtheory.specs.Factorials.{factorial, whole}
+use Rattle.uvtheory.specs.Parameters.{UVTheoryPars, State, mie-prefactor, mean-field-constant}
+use Rattle.uvtheory.specs.OneFluid.{OneFluid, one-fluid-properties, virial-sum, mean-cube}
+use Rattle.uvtheory.specs.Wca.HardSphere.{rm-of, diameter-wca, dimensionless-diameter-q-wca}
+use Rattle.uvtheory.specs.Wca.AttractivePerturbation.{delta-b12u, delta-a1u}
+
+module _ (A : Arithmetic) where
+  open Arithmetic A using (Value, constant, add as _+_, sub as _-_, mul as _*_, div as _/_, neg as -_, powi as _^_, exp, powf, tanh, ifBelow, sum)
+
+  infixl 60 _+_ _-_
+  infixl 70 _*_ _/_
+  infix 80 -_
+  infix 90 _^_
+  abbrev one : Value
+  one = constant N.one
+
+  -- with the low temperature correction omega; the test is strict
+  unfoldable pub u-fraction-wca : Value → Value → Value → Value
+  u-fraction-wca rep-x rho t-x =
+      let c : ℕ → Value = λ i. constant (CU-WCA-UVB3 i) in
+      let e = exp (- t-x * c 5 * (rho - c 6) ^ 2) in
+      let omega = ifBelow t-x N.limit175 (e * (recip A (tanh (t-x * c 7)) - one) ^ 2) (e * constant N.zero) in
+      - exp (- (rho ^ 2 * (recip A (rep-x + c 4) * c 3 + c 2) + omega)) + one
+
+  -- a coefficient of the residual second virial coefficient (RSAP), by its row of `C_B2_RSAP`
+  unfoldable pub coefficient-rsap : ℕ → Value → Value
+  coefficient-rsap k rep =
+      recip A rep * constant (C-B2-RSAP k 1) + recip A (rep ^ 2) * constant (C-B2-RSAP k 2) + recip A (rep ^ 3) * constant (C-B2-RSAP k 3) + constant (C-B2-RSAP k 0)
+
+  -- beta + beta^2 / (2! × 2) + .., of m terms after the first
+  unfoldable pub sum-beta : ℕ → Value → Value
+  sum-beta zero beta = beta
+  sum-beta (suc m) beta = sum-beta m beta + beta ^ suc (suc m) / (constant (factorial m) * constant (whole m))
+
+  unfoldable pub delta-b2 : Value → Value → Value → Value → Value
+  delta-b2 reduced-temperature rep att q =
+      let rm = rm-of A rep att in
+      let beta = recip A reduced-temperature in
+      let b20 = q ^ 3 * constant N.two / constant N.three * constant N.PI in
+      let y = exp beta - one in
+      (b20 - rm ^ 3 * constant N.two / constant N.three * constant N.PI - coefficient-rsap 0 rep) * y
+      - sum-beta 14 beta * coefficient-rsap 1 rep
+      - beta * coefficient-rsap 2 rep
+      - beta ^ 2 * coefficient-rsap 3 rep
+
+  unfoldable pub residual-virial-coefficient : UVTheoryPars Value → (ℕ → Value) → Value → Value
+  residual-virial-coefficient p x t =
+      virial-sum A (p .n) x (p .sigma-ij) 3 (λ i j.
+      let t-ij = t / p .eps-k-ij i j in
+      delta-b2 t-ij (p .rep-ij i j) (p .att-ij i j) (dimensionless-diameter-q-wca A t-ij (p .rep-ij i j) (p .att-ij i j)))
+
+  unfoldable pub delta-b31u : Value → Value → Value → Value → Value → Value → Value
+  delta-b31u t-x weighted-sigma3-ij rm-x nu att-x d-x =
+      let tau = rm-x - d-x in
+      let c : ℕ → Value = λ i. constant (C-WCA 0 i) in
+      let k1 = recip A nu * c 1 + recip A (nu ^ 2) * c 2 + c 0 + (recip A nu * c 4 + recip A (nu ^ 2) * c 5 + c 3) * tau in
+      recip A t-x * constant N.four * mie-prefactor A nu att-x * constant N.PI * k1 * weighted-sigma3-ij ^ 2
+
+  -- b31 to b34, by k 0 to 3: four entries of `K_LJ_B3` and one of each other table
+  unfoldable pub b3-term : ℕ → ℕ → Value → Value → Value
+  b3-term k at t-x rep-x =
+      let K : ℕ → Value = λ i. constant (K-LJ-B3 (at +ℕ i)) in
+      let r = rep-x - constant N.twelve in
+      recip A (powf (t-x + K 2) ((r / (rep-x - constant N.six) * constant (M-B3 k) + one) * K 3)) * K 1 * (r / (rep-x - constant (L-B3 k)) * constant (P-B3 k) + one) + K 0
+
+  -- ten times the square of the volume of a sphere
+  unfoldable pub ten-volumes : Value → Value
+  ten-volumes d = (d ^ 3 * constant N.PI / constant N.six) ^ 2 * constant N.ten
+
+  unfoldable pub b30-uv : Value → Value → Value → Value → Value
+  b30-uv rm-x rep-x d-x q-x =
+      let tau = - d-x + rm-x in
+      let tau2 = tau * tau in
+      let rep-inv = recip A rep-x in
+      let a : ℕ → Value = λ i. constant (WCA-CONSTANTS-ETA-A-UVB3 0 i) in
+      let b : ℕ → Value = λ i. constant (WCA-CONSTANTS-ETA-B-UVB3 0 i) in
+      let c1-eta-a = tau * (rep-inv * a 1 + a 0) + tau2 * (rep-inv * a 3 + a 2) in
+      let c1-eta-b = tau * b 0 + tau2 * b 1 in
+      ten-volumes d-x
+      - d-x ^ 3 * constant N.five / constant N.nine * constant N.PI ^ 2
+      * ((- q-x ^ 3 + rm-x ^ 3) * (c1-eta-a + one) - (- d-x ^ 3 + rm-x ^ 3) * (c1-eta-b + one))
+
+  unfoldable pub delta-b3 : Value → Value → Value → Value → Value → Value
+  delta-b3 t-x rm-x rep-x d-x q-x =
+      let beta = recip A t-x in
+      ten-volumes q-x
+      + b3-term 0 0 t-x rep-x * beta
+      + b3-term 1 4 t-x rep-x * beta ^ 2
+      + b3-term 2 8 t-x rep-x * beta ^ 3
+      + b3-term 3 12 t-x rep-x * beta ^ 4
+      - b30-uv rm-x rep-x d-x q-x
+
+  unfoldable pub residual-third-virial-coefficient : UVTheoryPars Value → (ℕ → Value) → Value → (ℕ → Value) → Value
+  residual-third-virial-coefficient p x t d =
+      virial-sum A (p .n) x (p .sigma-ij) 6 (λ i j.
+      let t-ij = t / p .eps-k-ij i j in
+      delta-b3 t-ij (rm-of A (p .rep-ij i j) (p .att-ij i j)) (p .rep-ij i j) ((d i / p .sigma i + d j / p .sigma j) * constant N.half)
+      (dimensionless-diameter-q-wca A t-ij (p .rep-ij i j) (p .att-ij i j)))
+
+  unfoldable pub energy : OneFluid Value → Value → Value → Value → Value → Value → Value
+  energy o t density rho b2bar b3bar =
+      let t-x = t / o .epsilon-k in
+      let rm-x = rm-of A (o .rep) (o .att) in
+      let mean-field-constant-x = mean-field-constant A (o .rep) (o .att) rm-x in
+      let q-vdw = dimensionless-diameter-q-wca A t-x (o .rep) (o .att) in
+      let b21u = delta-b12u A t-x mean-field-constant-x (o .weighted-sigma3-ij) q-vdw rm-x in
+      let db31u = delta-b31u t-x (o .weighted-sigma3-ij) rm-x (o .rep) (o .att) (o .d) in
+      let rho-x = density * o .sigma ^ 3 in
+      let alpha = exp (- rho-x * recip A (o .rep) * constant (CU-WCA-UVB3 0) * (recip A (t-x ^ 2) * constant (CU-WCA-UVB3 1) + one)) in
+      density
+      * (delta-a1u A o t-x density mean-field-constant-x q-vdw rm-x
+      + (- u-fraction-wca (o .rep) rho t-x + one) * ((b2bar - b21u) * density + density ^ 2 * alpha * (b3bar - db31u) * constant N.half))
+
+  unfoldable pub helmholtz-energy-density : UVTheoryPars Value → State Value → Value
+  helmholtz-energy-density p state =
+      let x = state .molefracs in
+      let t = state .temperature in
+      let density = sum (p .n) (state .partial-density) in
+      let d = diameter-wca A p t in
+      energy (one-fluid-properties A p x d) t density (density * mean-cube A (p .n) x (p .sigma)) (residual-virial-coefficient p x t) (residual-third-virial-coefficient p x t d)
