@@ -3,6 +3,10 @@ pub mod Fraction
 pub mod Value
 pub mod Rounding
 pub mod Next
+pub mod Zero
+pub mod Squares
+pub mod Significand
+pub mod RoundedRoot
 pub mod Cases
 pub mod Tests
 pub mod Both

@@ -108,7 +108,7 @@ pub hid-pos : (f : Format) → 0 < hid f
 hid-pos f = pow-pos (prec f - 1)
 
 -- so the next pattern is an infinity's at most, and has the same sign
-below-inf : (f : Format) (s : Bool) (c : ℕ) → c < top f → T (finite (ofFields f s (c / hid f) (c % hid f))) → suc c ≤ ones f * hid f
+pub below-inf : (f : Format) (s : Bool) (c : ℕ) → c < top f → T (finite (ofFields f s (c / hid f) (c % hid f))) → suc c ≤ ones f * hid f
 below-inf f s c h p =
     let x-le : c / hid f < suc (ones f) = div-lt-iff-lt-mul (hid-pos f) .1 (omega (arith, h)) in
     let x-lt : c / hid f < ones f = lt-of-le-ne (le-of-suc-le-suc x-le) (fields-not-ones f s (c / hid f) (c % hid f) p) in
@@ -254,7 +254,7 @@ nextDown-under f (inf true) h n k = absurd (subst (λ (y : Float). T (finite y))
 nextDown-under f (fin s m e) h n k = ≺→not-le (nextDown f (fin s m e)) (fin s m e) k tt (nextDown-lt f (fin s m e) h tt k)
 
 -- ---- a program may read the next pattern: it is none of a NaN
-real-plus : (f : Format) (c : ℕ) → c < top f → c ≤ ones f * hid f → T (not (nanBits f c))
+pub real-plus : (f : Format) (c : ℕ) → c < top f → c ≤ ones f * hid f → T (not (nanBits f c))
 real-plus f c h k = subst (λ (b : Bool). T (not b)) (sym (nanBits-above f c ∙ ap (ltb (ones f * hid f)) (mod-eq-of-lt h))) (le→nltb (ones f * hid f) c k)
 
 real-minus : (f : Format) (c : ℕ) → c < top f → c ≤ ones f * hid f → T (not (nanBits f (top f + c)))
