@@ -63,9 +63,11 @@ pub normal : (b : ℕ) → 2 ^ 52 ≤ b → b < 0x7ff0_0000_0000_0000 → Parts 
 normal b l h =
     let x = b / 2 ^ 52 - 1 in
     let e : b / 2 ^ 52 ≡ suc x = omega arith in
-    let e' : b / 2 ^ 52 + 51 ≡ x + 52 = omega arith in
-    ((omega arith, omega arith, omega arith), finer (ofBits binary64 b) ((2 ^ 52 + b % 2 ^ 52) * 2 ^ x) ((b % 2 ^ 52 + 2 ^ 52) * 2 ^ (b / 2 ^ 52 + 51)) (rw (e', pow-add) (omega arith))
-      (subst (λ (z : ℕ). HasValue (ofBits binary64 b) false (steps (2 ^ 52) z (b % 2 ^ 52)) (2 ^ 1074)) e (magnitude b h)))
+    let e' : b / 2 ^ 52 + 51 ≡ x + 52 = omega arith in (
+      (omega arith, omega arith, omega arith),
+      finer (ofBits binary64 b) ((2 ^ 52 + b % 2 ^ 52) * 2 ^ x) ((b % 2 ^ 52 + 2 ^ 52) * 2 ^ (b / 2 ^ 52 + 51)) (rw (e', pow-add) (omega arith))
+          (subst (λ (z : ℕ). HasValue (ofBits binary64 b) false (steps (2 ^ 52) z (b % 2 ^ 52)) (2 ^ 1074)) e (magnitude b h)),
+    )
 
 -- The place j of a subnormal's leading digit, and the shift that brings it to the 53rd.
 shift : (b : ℕ) → 0 < b → b < 2 ^ 52 → (j : ℕ) × (11 ≤ leadingZeros 64 b) × (leadingZeros 64 b - 11 + j ≡ 52) × (2 ^ j ≤ b) × (b < 2 ^ suc j)
@@ -89,9 +91,11 @@ subnormal b p h =
     let same : b * 1 * 2 ^ 52 ≡ b * 2 ^ s * 2 ^ (52 - s) = ap (λ (x : ℕ). b * 1 * 2 ^ x) (sym whole) ∙ ap (λ (x : ℕ). b * 1 * x) (pow-add 2 s (52 - s)) ∙ omega arith in
     let field : b / 2 ^ 52 ≡ 0 = omega arith in
     let wide : b * 2 ^ s % 2 ^ 64 ≡ b * 2 ^ s = mod-eq-of-lt (omega (arith, hi)) in
-    rw wide
-    ((lo, hi, omega arith), finer (ofBits binary64 b) (b * 1) (b * 2 ^ s * 2 ^ (52 - s)) same
-      (subst (λ (z : ℕ). HasValue (ofBits binary64 b) false (z * 1) (2 ^ 1074)) (mod-eq-of-lt h) (subst (λ (z : ℕ). HasValue (ofBits binary64 b) false (steps (2 ^ 52) z (b % 2 ^ 52)) (2 ^ 1074)) field (magnitude b (omega arith)))))
+    rw wide (
+      (lo, hi, omega arith),
+      finer (ofBits binary64 b) (b * 1) (b * 2 ^ s * 2 ^ (52 - s)) same
+          (subst (λ (z : ℕ). HasValue (ofBits binary64 b) false (z * 1) (2 ^ 1074)) (mod-eq-of-lt h) (subst (λ (z : ℕ). HasValue (ofBits binary64 b) false (steps (2 ^ 52) z (b % 2 ^ 52)) (2 ^ 1074)) field (magnitude b (omega arith)))),
+    )
 
 pub parted : (b : ℕ) → 0 < b → b < 0x7ff0_0000_0000_0000 → (sig : ℕ) × (exp : ℕ) × Parts b sig exp
 parted b p h = go (ltb b (2 ^ 52)) (ltb→lt b (2 ^ 52)) (nltb→le b (2 ^ 52))

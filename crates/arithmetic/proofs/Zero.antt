@@ -1,6 +1,6 @@
 -- What comparing a double with zero says of it.
 use mathlib.Core.Path.{_≡_, refl, sym, ap, ap₂, subst, _∙_}
-use mathlib.Core.Logic.{_⊎_, inl, inr}
+use mathlib.Core.Logic.{_≢_, _⊎_, inl, inr}
 use Prim.Native.Nat.{ℕ, zero, suc, _+_, _-_, _*_, _/_, _%_, _^_, _≤_, _<_}
 use native.Mathlib.Nat.{mul-pos, zero-mul, zero-lt-suc, eq-zero-or-pos, pow-suc}
 use native.Mathlib.Omega.{arith}
@@ -44,6 +44,13 @@ zero-equal s e = ap₂ (λ (a b : ℕ). level s a false b) (ap (λ (a : ℕ). a 
 
 pub not-zero : (s : Bool) (m : ℕ) (e : ℤ) → eq (fin s m e) (ofBits binary64 0) ≡ false → m ≡ 0 → ⊥
 not-zero s m e n z = true≢false (sym (zero-equal s e) ∙ ap (λ (k : ℕ). eq (fin s k e) (ofBits binary64 0)) (sym z) ∙ n)
+
+pub nonzero-pattern : (x : Float) → T (fits binary64 x) → eq x (ofBits binary64 0) ≡ false → (toBits binary64 x ≢ 0) × (toBits binary64 x ≢ 2 ^ 63)
+unfolding eq ofBits
+nonzero-pattern x h n = (λ e. no 0 e refl, λ e. no (2 ^ 63) e refl)
+  where
+    no : (b : ℕ) → toBits binary64 x ≡ b → eq (ofBits binary64 b) (ofBits binary64 0) ≡ true → ⊥
+    no b e t = true≢false (sym t ∙ ap (λ (y : Float). eq y (ofBits binary64 0)) (ap (ofBits binary64) (sym e) ∙ ofBits-toBits binary64 x h) ∙ n)
 
 -- ---- above zero
 pub above-zero : (x : Float) → T (finite x) → lt (ofBits binary64 0) x ≡ true → null ≺ value x

@@ -1,8 +1,8 @@
 // The operations and elementary functions on f64 that the formulas call, each proved equal to its definition in crate arithmetic.
 // What has no rule, and an argument that is not finite, gives NaN: no function asks anything of its caller.
 pub mod basic;
+pub mod next;
 pub mod parts;
 pub mod root;
-pub mod next;
 
 pub use basic::is_finite;

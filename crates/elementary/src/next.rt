@@ -1,6 +1,5 @@
 // The next double up and the next double down.
 use crate::basic::is_finite;
-
 ghost use mathlib.Core.Path.{_≡_};
 ghost use lib.Ieee.{binary64};
 ghost use Rattle.arithmetic.specs.Next.{nextUp, nextDown};

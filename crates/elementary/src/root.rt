@@ -1,7 +1,7 @@
 // The square root, worked in whole numbers: one binary digit a round, from the leading 1.
 use crate::basic::is_finite;
-use crate::parts::{parts, LEADING};
-
+use crate::parts::LEADING;
+use crate::parts::parts;
 ghost use mathlib.Core.Path.{_≡_};
 ghost use Prim.Native.Nat.{_+_, _*_, _/_, _%_, _^_, _≤_, _<_};
 ghost use lib.Ieee.{binary64, ofBits};
