@@ -7,6 +7,7 @@ pub mod Zero
 pub mod Squares
 pub mod Significand
 pub mod RoundedRoot
+pub mod Nearest
 pub mod Cases
 pub mod Tests
 pub mod Both

@@ -191,7 +191,7 @@ even-exponent sig exp lo hi = go (exp % 2) (omega arith)
     go (suc (suc o)) h = absurd (omega arith)
 
 module _ (b sig exp : ℕ) (c : Parts b sig exp) (r : ℕ) (f : IsRoot r (radicand sig exp)) where
-  range : (2 ^ 53 ≤ r) × (r + 1 < 2 ^ 54)
+  pub range : (2 ^ 53 ≤ r) × (r + 1 < 2 ^ 54)
   range =
       let s = even-exponent sig exp (c .0 .0) (c .0 .1) in
       let l : 2 ^ 53 < r + 1 = less-of-squares (2 ^ 53) (r + 1) (omega (arith, f .high, s .0)) in
@@ -204,15 +204,16 @@ module _ (b sig exp : ℕ) (c : Parts b sig exp) (r : ℕ) (f : IsRoot r (radica
   is-rounded : sqrt (ofBits binary64 b) ≡ roundedRoot (radicand sig exp * (2 ^ (exp / 2 + 484) * 2 ^ (exp / 2 + 484)))
   is-rounded = sqrt-by-value (ofBits binary64 b) (sig * 2 ^ exp) (mul-pos (omega (arith, c .0)) (pow-pos exp)) (c .1) ∙ ap roundedRoot (in-squares sig exp)
 
-  pub root-value : HasValue (sqrt (ofBits binary64 b)) false ((r + 1) / 2 * 2 ^ (exp / 2 + 485)) (2 ^ 1074)
+  pub root-fits : T (fits binary64 (sqrt (ofBits binary64 b)))
+  root-fits = rw is-rounded (rounded-fits _)
+
+  pub root-value : HasValue (sqrt (ofBits binary64 b)) false (((r - 1) / 2 + 1) * 2 ^ suc (exp / 2 + 484)) (2 ^ 1074)
   root-value =
       let s = even-exponent sig exp (c .0 .0) (c .0 .1) in
-      let e : (r - 1) / 2 + 1 ≡ (r + 1) / 2 = omega (arith, range .0) in
-      let e' : suc (exp / 2 + 484) ≡ exp / 2 + 485 = omega arith in
-      rw (is-rounded, ← e, ← e') (rounded-value ((r - 1) / 2) (radicand sig exp) (exp / 2 + 484) halved (omega (arith, range .1)) (omega (arith, s .0)) (omega (arith, s .1)) (omega (arith, c .0 .2)))
+      rw is-rounded (rounded-value ((r - 1) / 2) (radicand sig exp) (exp / 2 + 484) halved (omega (arith, range .1)) (omega (arith, s .0)) (omega (arith, s .1)) (omega (arith, c .0 .2)))
 
   pub root-pattern : ((exp / 2 + 485) * 2 ^ 52 + (r + 1) / 2 < 0x7ff0_0000_0000_0000) × (ofBits binary64 ((exp / 2 + 485) * 2 ^ 52 + (r + 1) / 2) ≡ sqrt (ofBits binary64 b))
-  root-pattern = (
-    omega (arith, range .1, c .0 .2),
-    pattern-is (sqrt (ofBits binary64 b)) ((r + 1) / 2) (exp / 2 + 485) (subst (λ (x : Float). T (fits binary64 x)) (sym is-rounded) (rounded-fits _)) root-value (omega (arith, range .0)) (omega (arith, range .1)),
-  )
+  root-pattern =
+      let e : (r + 1) / 2 ≡ (r - 1) / 2 + 1 = omega (arith, range .0) in
+      let e' : exp / 2 + 485 ≡ suc (exp / 2 + 484) = omega arith in
+      (omega (arith, range .1, c .0 .2), rw (e, e') (pattern-is (sqrt (ofBits binary64 b)) ((r - 1) / 2 + 1) (suc (exp / 2 + 484)) root-fits root-value (omega (arith, range .0)) (omega (arith, range .1))))

@@ -49,11 +49,11 @@ fields-under f (suc x) t h = rw (cond-no (eqb (suc x) (ones f)) _ _ (not-T (eqb 
 magnitude : (b : ℕ) → b < 0x7ff0_0000_0000_0000 → HasValue (ofBits binary64 b) false (size-of binary64 b) (2 ^ 1074)
 magnitude b h = rw (read-plus binary64 b (omega arith)) (fields-under binary64 (b / 2 ^ 52) (b % 2 ^ 52) (omega arith))
 
--- a of 2 ^ -1074 is a * 2 ^ 52 of 2 ^ -1126
-finer : (x : Float) (a n : ℕ) → a * 2 ^ 52 ≡ n → HasValue x false a (2 ^ 1074) → HasValue x false n (2 ^ 1126)
-finer nan a n e v = v
-finer (inf t) a n e v = v
-finer (fin t m d) a n e v = (v .0, sym (mul-assoc (m * up d) (2 ^ 1074) (2 ^ 52)) ∙ ap (λ (z : ℕ). z * 2 ^ 52) (v .1) ∙ mul-right-comm a (down d) (2 ^ 52) ∙ ap (λ (z : ℕ). z * down d) e)
+-- a / l is a * w / (l * w)
+pub finer : (x : Float) (a l w n : ℕ) → a * w ≡ n → HasValue x false a l → HasValue x false n (l * w)
+finer nan a l w n e v = v
+finer (inf t) a l w n e v = v
+finer (fin t m d) a l w n e v = (v .0, sym (mul-assoc (m * up d) l w) ∙ ap (λ (z : ℕ). z * w) (v .1) ∙ mul-right-comm a (down d) w ∙ ap (λ (z : ℕ). z * down d) e)
 
 -- the double with the pattern b is sig * 2 ^ exp
 abbrev pub Parts : ℕ → ℕ → ℕ → Type 0
@@ -65,7 +65,7 @@ normal b l h =
     let e : b / 2 ^ 52 ≡ suc x = omega arith in
     let e' : b / 2 ^ 52 + 51 ≡ x + 52 = omega arith in (
       (omega arith, omega arith, omega arith),
-      finer (ofBits binary64 b) ((2 ^ 52 + b % 2 ^ 52) * 2 ^ x) ((b % 2 ^ 52 + 2 ^ 52) * 2 ^ (b / 2 ^ 52 + 51)) (rw (e', pow-add) (omega arith))
+      finer (ofBits binary64 b) ((2 ^ 52 + b % 2 ^ 52) * 2 ^ x) (2 ^ 1074) (2 ^ 52) ((b % 2 ^ 52 + 2 ^ 52) * 2 ^ (b / 2 ^ 52 + 51)) (rw (e', pow-add) (omega arith))
           (subst (λ (z : ℕ). HasValue (ofBits binary64 b) false (steps (2 ^ 52) z (b % 2 ^ 52)) (2 ^ 1074)) e (magnitude b h)),
     )
 
@@ -93,7 +93,7 @@ subnormal b p h =
     let wide : b * 2 ^ s % 2 ^ 64 ≡ b * 2 ^ s = mod-eq-of-lt (omega (arith, hi)) in
     rw wide (
       (lo, hi, omega arith),
-      finer (ofBits binary64 b) (b * 1) (b * 2 ^ s * 2 ^ (52 - s)) same
+      finer (ofBits binary64 b) (b * 1) (2 ^ 1074) (2 ^ 52) (b * 2 ^ s * 2 ^ (52 - s)) same
           (subst (λ (z : ℕ). HasValue (ofBits binary64 b) false (z * 1) (2 ^ 1074)) (mod-eq-of-lt h) (subst (λ (z : ℕ). HasValue (ofBits binary64 b) false (steps (2 ^ 52) z (b % 2 ^ 52)) (2 ^ 1074)) field (magnitude b (omega arith)))),
     )
 

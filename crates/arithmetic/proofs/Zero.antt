@@ -61,7 +61,7 @@ zero-value : value (ofBits binary64 0) ≼ null
 unfolding ofBits
 zero-value = record { cross = omega arith }
 
-minus-value : (x : Float) (a c : ℕ) → 0 < c → HasValue x true a c → value x ≼ null
+pub minus-value : (x : Float) (a c : ℕ) → 0 < c → HasValue x true a c → value x ≼ null
 minus-value x a c C v = ≼-trans (value-is x true a c C v .0) (record { cross = omega arith })
 
 -- the sign is clear, and the pattern is below the infinity's
