@@ -4,6 +4,10 @@ pub mod Value
 pub mod Rounding
 pub mod Next
 pub mod Zero
+pub mod Squares
+pub mod Significand
+pub mod RoundedRoot
+pub mod Nearest
 pub mod Cases
 pub mod Tests
 pub mod Exact

@@ -2,11 +2,12 @@
 use mathlib.Core.Path.{_≡_, refl, sym, ap, ap₂, subst, _∙_}
 use mathlib.Core.Logic.{_≢_, _⊎_, inl, inr}
 use Prim.Native.Nat.{ℕ, zero, suc, _+_, _-_, _*_, _/_, _%_, _^_, _≤_, _<_}
-use native.Mathlib.Nat.{le-of-lt, le-of-eq, lt-irrefl, lt-of-lt-of-le, eq-or-lt-of-le, le-of-suc-le-suc, mul-pos, mul-comm, zero-lt-suc, mul-lt-mul-of-pos-right, mul-le-mul-right, add-mod-left, mod-eq-of-lt, mul-add-mod-self-left, div-add-mod', mod-lt, pow-succ', le-add-right, div-lt-iff-lt-mul}
+use native.Mathlib.Nat.{le-of-lt, le-of-eq, lt-irrefl, lt-of-lt-of-le, eq-or-lt-of-le, le-of-suc-le-suc, mul-pos, mul-comm, zero-lt-suc, mul-lt-mul-of-pos-right, mul-le-mul-right, add-mod-left, mod-eq-of-lt, mul-add-mod-self-left, div-add-mod', mod-lt, pow-succ', le-add-right, div-lt-iff-lt-mul, div-eq-of-lt, div-eq-of-lt-le}
 use native.Mathlib.Omega.{arith}
 use mathlib.Core.Bool.{Bool, true, false, not, _&&_, _||_, cond}
 use lib.Dec.{T, leb, ltb, eqb, ltb→lt, lt→ltb, nltb→le, eqb→eq, le→leb, T-not, not-T}
 use lib.Arith.{digits-div, digits-mod, lt→nleb, le→nltb, lt-of-le-ne}
+use lib.IntN.{pos}
 use lib.Pow.{pow-pos}
 use lib.Ieee.{Float, nan, inf, fin, Format, binary32, binary64, prec, emax, low, up, down, odd, le, fits, hid, ones, top, ofFields, ofBits, toBits, isNan, nanBits}
 use lib.Ieee.Bits.{cond-no, is-true, is-false, ofBits-toBits, toBits-lt, ofBits-fits, nanBits-above}
@@ -320,30 +321,37 @@ bitsUp-real f x h p = up-real f (toBits f x) (toBits-lt f x h) (subst (λ (y : F
 pub bitsDown-real : (f : Format) (x : Float) → T (fits f x) → T (finite x) → T (not (nanBits f (bitsDown f (toBits f x))))
 bitsDown-real f x h p = down-real f (toBits f x) (toBits-lt f x h) (subst (λ (y : Float). T (finite y)) (sym (ofBits-toBits f x h)) p)
 
--- ---- the next pattern, by the tests that a program makes
-pub bitsUp-plus : (f : Format) (b : ℕ) → b < top f → bitsUp f b ≡ b + 1
+-- ---- the next pattern as a program works it out: the sign is a number, and zeros are left aside
+sign-set : (f : Format) (b : ℕ) → top f ≤ b → b < 2 * top f → b / top f ≡ 1
+sign-set f b h B = div-eq-of-lt-le (top f) (omega arith) (omega arith)
+
+pub bitsUp-is : (f : Format) (b : ℕ) → b < 2 * top f → b ≢ top f → bitsUp f b ≡ b + 1 - b / top f * 2
 unfolding bitsUp
-bitsUp-plus f b h = rw (is-true (ltb b (top f)) (lt→ltb b (top f) h)) (omega arith)
+bitsUp-is f b B n = go (ltb b (top f)) (eqb b (top f)) (ltb→lt b (top f)) (nltb→le b (top f)) (eqb→eq b (top f))
+  where
+    go : (t u : Bool) → (T t → b < top f) → (T (not t) → top f ≤ b) → (T u → b ≡ top f) → cond t (suc b) (cond u 1 (b - 1)) ≡ b + 1 - b / top f * 2
+    go true u h k e = omega (arith, div-eq-of-lt (h tt))
+    go false true h k e = absurd (n (e tt))
+    go false false h k e = omega (arith, sign-set f b (k tt) B)
 
-pub bitsUp-zero : (f : Format) (b : ℕ) → b ≡ top f → bitsUp f b ≡ 1
-unfolding bitsUp
-bitsUp-zero f b e = rw (is-false (ltb b (top f)) (le→nltb b (top f) (le-of-eq (sym e))), is-true (eqb b (top f)) (eq→eqb e))
-
-pub bitsUp-minus : (f : Format) (b : ℕ) → top f < b → bitsUp f b ≡ b - 1
-unfolding bitsUp
-bitsUp-minus f b h = rw (is-false (ltb b (top f)) (le→nltb b (top f) (le-of-lt h)), is-false (eqb b (top f)) (not-T (eqb b (top f)) (λ u. lt-irrefl b (subst (λ (k : ℕ). k < b) (sym (eqb→eq b (top f) u)) h))))
-
-pub bitsDown-plus : (f : Format) (b : ℕ) → b < top f → 0 < b → bitsDown f b ≡ b - 1
+pub bitsDown-is : (f : Format) (b : ℕ) → b < 2 * top f → b ≢ 0 → bitsDown f b ≡ b - 1 + b / top f * 2
 unfolding bitsDown
-bitsDown-plus f b h k = rw (is-true (ltb b (top f)) (lt→ltb b (top f) h), is-false (eqb b 0) (not-T (eqb b 0) (λ u. lt-irrefl b (subst (λ (k : ℕ). k < b) (sym (eqb→eq b 0 u)) k))))
+bitsDown-is f b B n = go (ltb b (top f)) (eqb b 0) (ltb→lt b (top f)) (nltb→le b (top f)) (eqb→eq b 0)
+  where
+    go : (t u : Bool) → (T t → b < top f) → (T (not t) → top f ≤ b) → (T u → b ≡ 0) → cond t (cond u (suc (top f)) (b - 1)) (suc b) ≡ b - 1 + b / top f * 2
+    go true true h k e = absurd (n (e tt))
+    go true false h k e = omega (arith, div-eq-of-lt (h tt))
+    go false u h k e = omega (arith, sign-set f b (k tt) B, one-lt-top f)
 
-pub bitsDown-zero : (f : Format) (b : ℕ) → b ≡ 0 → bitsDown f b ≡ top f + 1
-unfolding bitsDown
-bitsDown-zero f b e = rw (is-true (ltb b (top f)) (lt→ltb b (top f) (omega (arith, one-lt-top f))), is-true (eqb b 0) (eq→eqb e)) (omega arith)
+pub nextUp-zero : (s : Bool) → nextUp binary64 (fin s 0 (pos 0)) ≡ ofBits binary64 1
+unfolding nextUp toBits
+nextUp-zero true = refl
+nextUp-zero false = refl
 
-pub bitsDown-minus : (f : Format) (b : ℕ) → top f ≤ b → bitsDown f b ≡ b + 1
-unfolding bitsDown
-bitsDown-minus f b h = rw (is-false (ltb b (top f)) (le→nltb b (top f) h)) (omega arith)
+pub nextDown-zero : (s : Bool) → nextDown binary64 (fin s 0 (pos 0)) ≡ ofBits binary64 (2 ^ 63 + 1)
+unfolding nextDown toBits
+nextDown-zero true = refl
+nextDown-zero false = refl
 
 -- one more than a finite value's pattern is a pattern too
 pub pattern-room : (f : Format) (x : Float) → T (fits f x) → T (finite x) → toBits f x + 1 < 2 * top f

@@ -148,7 +148,7 @@ pow-le-back : (a l : ℕ) → 2 ^ a ≤ 2 ^ l → a ≤ l
 pow-le-back a l h = le-of-suc-le-suc (lt-of-not-le (λ (g : suc l ≤ a). lt-irrefl (2 ^ l) (lt-of-lt-of-le (pow-lt g) h)))
 
 -- 2 ^ e is 2 ^ j of the smallest value 2 ^ -l
-place : (l : ℕ) (e : ℤ) → down e ≤ 2 ^ l → (j : ℕ) × (up e * 2 ^ l ≡ 2 ^ j * down e)
+pub place : (l : ℕ) (e : ℤ) → down e ≤ 2 ^ l → (j : ℕ) × (up e * 2 ^ l ≡ 2 ^ j * down e)
 place l (pos a) h = (a + l, sym (mul-one (2 ^ (a + l)) ∙ pow-add 2 a l))
 place l (negsuc a) h =
     let k : suc a ≤ l = pow-le-back (suc a) l h in

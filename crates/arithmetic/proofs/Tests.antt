@@ -11,6 +11,7 @@ use lib.Ieee.Bits.{is-true}
 use Rattle.arithmetic.specs.Fraction.{_≼_, _≺?_, _⊕_, opp}
 use Rattle.arithmetic.specs.Value.{value}
 use Rattle.arithmetic.specs.Basic.{below, above, passes}
+use Rattle.arithmetic.specs.Doubles.{whereFinite}
 use Rattle.arithmetic.proofs.Fraction.{≺?→≺, ≺→≺?, ≺-not-≼, ≼-or-≻}
 use Rattle.arithmetic.proofs.Value.{lt→≺, ≺→lt, le→≼, ≼→le}
 use Rattle.arithmetic.proofs.Rounding.{sub-is, rounded-zero}
@@ -64,3 +65,14 @@ zeroByZero = div binary64 (ofBits binary64 0) (ofBits binary64 0)
 pub zero-by-zero : zeroByZero ≡ nan
 unfolding div ofBits
 zero-by-zero = refl
+
+-- ---- where a program tests whether x is finite, and gives y or NaN
+module _ (b : Bool) (x y : Float) (e : b ≡ finite x) where
+  pub where-then : b ≡ true → y ≡ whereFinite x y
+  where-then t = rw (← e, t) refl
+
+  pub where-else : b ≡ false → zeroByZero ≡ whereFinite x y
+  where-else t = rw (← e, t) zero-by-zero
+
+pub is-so : (b : Bool) (x : Float) → b ≡ finite x → b ≡ true → T (finite x)
+is-so b x e t = subst T (sym (sym e ∙ t)) tt

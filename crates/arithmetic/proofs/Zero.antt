@@ -1,10 +1,10 @@
 -- What comparing a double with zero says of it.
 use mathlib.Core.Path.{_≡_, refl, sym, ap, ap₂, subst, _∙_}
-use mathlib.Core.Logic.{_⊎_, inl, inr}
+use mathlib.Core.Logic.{_≢_, _⊎_, inl, inr}
 use Prim.Native.Nat.{ℕ, zero, suc, _+_, _-_, _*_, _/_, _%_, _^_, _≤_, _<_}
 use native.Mathlib.Nat.{mul-pos, zero-mul, zero-lt-suc, eq-zero-or-pos, pow-suc}
 use native.Mathlib.Omega.{arith}
-use mathlib.Core.Bool.{Bool, true, false, not, _||_, Bool·beq, false≢true}
+use mathlib.Core.Bool.{Bool, true, false, not, _||_, Bool·beq, true≢false, false≢true}
 use lib.IntN.{ℤ, pos, negsuc}
 use lib.Dec.{T, ltb, eqb, ltb→lt, nltb→le, eqb→eq}
 use lib.Pow.{pow-pos}
@@ -16,7 +16,7 @@ use lib.Ieee.Scale.{finite}
 use Rattle.arithmetic.specs.Fraction.{_≼_, _≺_, null}
 use Rattle.arithmetic.specs.Value.{value}
 use Rattle.arithmetic.proofs.Fraction.{≺-not-≼, ≼-trans}
-use Rattle.arithmetic.proofs.Value.{value-is}
+use Rattle.arithmetic.proofs.Value.{value-is, lt→≺}
 use Rattle.arithmetic.proofs.Next.{size-of, read-plus, read-minus, fields-value, below-inf}
 
 -- ---- equal to zero
@@ -34,7 +34,7 @@ is-zero (fin s (suc m) e) h t =
     let z = eqb→eq (suc m * up e * 1) (0 * down e) (and-l (eqb (suc m * up e * 1) (0 * down e)) (Bool·beq s false || eqb (suc m * up e * 1) 0) (subst T (sym t) tt)) in
     absurd (omega (arith, z, mul-pos (zero-lt-suc m) (up-pos e)))
 
-pub zero-equal : (s : Bool) (e : ℤ) → eq (fin s 0 e) (ofBits binary64 0) ≡ true
+zero-equal : (s : Bool) (e : ℤ) → eq (fin s 0 e) (ofBits binary64 0) ≡ true
 unfolding eq ofBits
 zero-equal s e = ap₂ (λ (a b : ℕ). level s a false b) (ap (λ (a : ℕ). a * 1) (zero-mul (up e))) (zero-mul (down e)) ∙ go s
   where
@@ -42,14 +42,29 @@ zero-equal s e = ap₂ (λ (a b : ℕ). level s a false b) (ap (λ (a : ℕ). a 
     go true = refl
     go false = refl
 
--- ---- above zero: the sign is clear, and the pattern is below the infinity's
+pub not-zero : (s : Bool) (m : ℕ) (e : ℤ) → eq (fin s m e) (ofBits binary64 0) ≡ false → m ≡ 0 → ⊥
+not-zero s m e n z = true≢false (sym (zero-equal s e) ∙ ap (λ (k : ℕ). eq (fin s k e) (ofBits binary64 0)) (sym z) ∙ n)
+
+pub nonzero-pattern : (x : Float) → T (fits binary64 x) → eq x (ofBits binary64 0) ≡ false → (toBits binary64 x ≢ 0) × (toBits binary64 x ≢ 2 ^ 63)
+unfolding eq ofBits
+nonzero-pattern x h n = (λ e. no 0 e refl, λ e. no (2 ^ 63) e refl)
+  where
+    no : (b : ℕ) → toBits binary64 x ≡ b → eq (ofBits binary64 b) (ofBits binary64 0) ≡ true → ⊥
+    no b e t = true≢false (sym t ∙ ap (λ (y : Float). eq y (ofBits binary64 0)) (ap (ofBits binary64) (sym e) ∙ ofBits-toBits binary64 x h) ∙ n)
+
+-- ---- above zero
+pub above-zero : (x : Float) → T (finite x) → lt (ofBits binary64 0) x ≡ true → null ≺ value x
+unfolding ofBits
+above-zero x p t = omega (arith, lt→≺ (fin false 0 (pos 0)) x tt p (subst T (sym t) tt))
+
 zero-value : value (ofBits binary64 0) ≼ null
 unfolding ofBits
 zero-value = record { cross = omega arith }
 
-minus-value : (x : Float) (a c : ℕ) → 0 < c → HasValue x true a c → value x ≼ null
+pub minus-value : (x : Float) (a c : ℕ) → 0 < c → HasValue x true a c → value x ≼ null
 minus-value x a c C v = ≼-trans (value-is x true a c C v .0) (record { cross = omega arith })
 
+-- the sign is clear, and the pattern is below the infinity's
 pub positive-pattern : (x : Float) → T (fits binary64 x) → T (finite x) → null ≺ value x → (0 < toBits binary64 x) × (toBits binary64 x < 0x7ff0_0000_0000_0000)
 positive-pattern x h p z = go (toBits binary64 x) (toBits-lt binary64 x h) (sym (ofBits-toBits binary64 x h)) (ltb (toBits binary64 x) (2 ^ 63)) (ltb→lt (toBits binary64 x) (2 ^ 63)) (nltb→le (toBits binary64 x) (2 ^ 63))
   where

@@ -2,6 +2,5 @@
 pub mod Floor
 pub mod Place
 pub mod PowerOfTwo
-pub mod Patterns
 pub mod Reduction
 pub mod Words

@@ -24,7 +24,7 @@ use Rattle.arithmetic.proofs.Value.{lt→≺}
 use Rattle.arithmetic.proofs.Next.{finite-not-nan}
 use Rattle.arithmetic.proofs.Zero.{positive-pattern}
 use Rattle.arithmetic.proofs.Cases.{exponent-none}
-use Rattle.arithmetic.proofs.Tests.{not-below, zero-by-zero}
+use Rattle.arithmetic.proofs.Tests.{not-below, zero-by-zero, is-so}
 use Rattle.elementary.proofs.Words.{float-word}
 use Rattle.elementary.proofs.logarithm.ln.Statement.{statement}
 use Rattle.elementary.proofs.logarithm.ln.Tie as tie
@@ -53,10 +53,7 @@ unfolding ofBits
 above-zero v p h = ≼-≺-trans (omega arith) (lt→≺ zeroD v tt p (subst T (sym h) tt))
 
 is-finite : (c : tie.Then2) → T (finite (c .before .before .before .args .v))
-is-finite c = is-so (c .before .is-finite .ensures) (c .if2 .taken)
-  where
-    is-so : {b : Bool} {x : Bool} → b ≡ x → b ≡ true → T x
-    is-so e t = subst T (sym (sym e ∙ t)) tt
+is-finite c = is-so (c .before .is-finite .result) (c .before .before .before .args .v) (c .before .is-finite .ensures) (c .if2 .taken)
 
 positive : (c : tie.Then2) → (0 < toBits binary64 (c .before .before .before .args .v)) × (toBits binary64 (c .before .before .before .args .v) < 0x7ff0_0000_0000_0000)
 positive c =
