@@ -6,7 +6,7 @@ use Rattle.arithmetic.specs.Arithmetic.{Arithmetic}
 use Rattle.arithmetic.proofs.Both.{Both, bothOf, Kept, both}
 use Rattle.uvtheory.specs.Literals.{half, one, six}
 use Rattle.uvtheory.specs.Contributions.{Contributions}
-use Rattle.uvtheory.specs.Parameters.{UVTheoryPars, State, combined, new, mie-prefactor, mean-field-constant, bh-alpha, bh-coefficients}
+use Rattle.uvtheory.specs.Parameters.{UVTheoryPars, State, combined, new, mie-prefactor, mean-field-of, bh-coefficient, bh-coefficients}
 use Rattle.uvtheory.specs.HardSphere as S
 use Rattle.uvtheory.specs.PackingFraction as P
 use Rattle.uvtheory.specs.OneFluid as O
@@ -71,5 +71,5 @@ module _ (A B : Arithmetic) (R : A .Value → B .Value → Type 0) (K : Kept A B
       wca-reference = (Wca.residual-helmholtz-energy-contributions AB pars s .reference) .holds
 
       b3-attractive : R (Wca.residual-helmholtz-energy-contributions-b3 A left sl .attractive) (Wca.residual-helmholtz-energy-contributions-b3 B right sr .attractive)
-      unfolding B3A.helmholtz-energy-density B3A.energy B3A.residual-third-virial-coefficient B3A.delta-b3 B3A.b30-uv B3A.ten-volumes B3A.b3-term B3A.delta-b31u B3A.residual-virial-coefficient B3A.delta-b2 B3A.sum-beta B3A.coefficient-rsap B3A.u-fraction-wca WcaA.delta-a1u WcaA.delta-b12u WcaA.correlation-integral-wca WcaA.coefficient WcaS.diameter-wca WcaS.diameter-of WcaS.rm-of WcaS.dimensionless-diameter-q-wca WcaS.coefficient-q mie-prefactor mean-field-constant O.mean-cube O.virial-sum O.pair-mean O.cube-root
+      unfolding B3A.helmholtz-energy-density B3A.energy B3A.residual-third-virial-coefficient B3A.delta-b3 B3A.b30-uv B3A.ten-volumes B3A.b3-term B3A.delta-b31u B3A.residual-virial-coefficient B3A.delta-b2 B3A.sum-beta B3A.coefficient-rsap B3A.u-fraction-wca WcaA.delta-a1u WcaA.delta-b12u WcaA.correlation-integral-wca WcaA.coefficient WcaS.diameter-wca WcaS.diameter-of WcaS.rm-of WcaS.dimensionless-diameter-q-wca WcaS.coefficient-q mie-prefactor mean-field-of O.mean-cube O.virial-sum O.pair-mean O.cube-root
       b3-attractive = (Wca.residual-helmholtz-energy-contributions-b3 AB pars s .attractive) .holds

@@ -4,6 +4,7 @@ pub mod Digits
 pub mod Factorials
 pub mod Literals
 pub mod Parameters
+pub mod Rows
 pub mod Contributions
 pub mod HardSphere
 pub mod PackingFraction

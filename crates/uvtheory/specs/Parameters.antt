@@ -38,21 +38,23 @@ module _ (A : Arithmetic) where
   unfoldable pub mie-prefactor : Value → Value → Value
   mie-prefactor rep att = rep / (rep - att) * powf (rep / att) (att / (rep - att))
 
-  unfoldable pub mean-field-constant : Value → Value → Value → Value
-  mean-field-constant rep att x =
-      mie-prefactor rep att * (powf x (- att + constant three) / (att - constant three) - powf x (- rep + constant three) / (rep - constant three))
+  -- by the prefactor c
+  unfoldable pub mean-field-of : Value → Value → Value → Value → Value
+  mean-field-of c rep att x = c * (powf x (- att + constant three) / (att - constant three) - powf x (- rep + constant three) / (rep - constant three))
 
-  -- The coefficients 1 to 4 are `CD_BH` times (1, alpha, alpha²).
-  unfoldable pub bh-alpha : Value → Value → Value
-  bh-alpha rep att =
-      constant one / mean-field-constant rep att (constant one)
-      - constant one / mean-field-constant (constant seven) att (constant one)
+  abbrev pub mean-field-constant : Value → Value → Value → Value
+  mean-field-constant rep att x = mean-field-of (mie-prefactor rep att) rep att x
 
-  unfoldable pub bh-coefficients : Value → Value → ℕ → Value
-  bh-coefficients rep att zero = constant minusTwo * rep / ((att - rep) * mie-prefactor rep att)
-  bh-coefficients rep att (suc k) =
-      let alpha = bh-alpha rep att in
-      constant (CD-BH k 0) * constant one + constant (CD-BH k 1) * alpha + constant (CD-BH k 2) * (alpha * alpha)
+  -- by the prefactor c of rep and att, and alpha. The coefficients 1 to 4 are `CD_BH` times (1, alpha, alpha²).
+  unfoldable pub bh-coefficient : Value → Value → Value → Value → ℕ → Value
+  bh-coefficient c alpha rep att zero = constant minusTwo * rep / ((att - rep) * c)
+  bh-coefficient c alpha rep att (suc k) = constant (CD-BH k 0) * constant one + constant (CD-BH k 1) * alpha + constant (CD-BH k 2) * (alpha * alpha)
+
+  abbrev pub bh-coefficients : Value → Value → ℕ → Value
+  bh-coefficients rep att =
+      let inv-a76 = constant one / mean-field-constant (constant seven) att (constant one) in
+      let am6 = mean-field-constant rep att (constant one) in
+      bh-coefficient (mie-prefactor rep att) (constant one / am6 - inv-a76) rep att
 
   -- `UVTheoryPars::new`
   abbrev pub new : ℕ → (ℕ → Value) → (ℕ → Value) → (ℕ → Value) → (ℕ → Value) → (ℕ → ℕ → Value) → UVTheoryPars Value

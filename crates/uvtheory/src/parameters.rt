@@ -1,4 +1,17 @@
-// uvtheory/parameters.rs: the parameters of a mixture.
+// uvtheory/parameters.rs: the parameters of a mixture, and `mie_prefactor`, `mean_field_constant` and `bh_coefficients`.
+use elementary::basic::div;
+use elementary::exponential::powf;
+use elementary::root::sqrt;
+
+ghost use mathlib.Core.Path.{_≡_};
+ghost use mathlib.Core.List.{[], _∷_};
+ghost use Prim.Native.Nat.{_+_, _*_, _≤_, _<_};
+ghost use lib.Ieee.{nan};
+ghost use lib.ListN.{getD};
+ghost use Rattle.arithmetic.specs.Doubles.{guarded};
+ghost use Rattle.uvtheory.specs.Literals as N;
+ghost use Rattle.uvtheory.specs.Parameters as F;
+ghost use Rattle.uvtheory.specs.Rows.{row, matrix, Matrix, place, parameters};
 
 // A mixture of n substances, 1 to 8, as sent. Only the first n of each row count, and of k_ij the first n(n-1)/2: i below j, row by row.
 pub struct Mixture {
@@ -15,4 +28,70 @@ pub struct State {
     pub temperature: f64,
     pub partial_density: [f64; 8],
     pub molefracs: [f64; 8],
+}
+
+// The combined values of all pairs: matrices of n rows of n values, row by row.
+pub struct Combined {
+    pub rep_ij: [f64; 64],
+    pub att_ij: [f64; 64],
+    pub sigma_ij: [f64; 64],
+    pub eps_k_ij: [f64; 64],
+}
+
+// Constants for BH temperature dependent HS diameter.
+const CD_BH: [[f64; 3]; 4] = [
+    [0.0, 1.09360455168912E-02, 0.0],
+    [-2.00897880971934E-01, -1.27074910870683E-02, 0.0],
+    [1.40422470174053E-02, 7.35946850956932E-02, 1.28463973950737E-02],
+    [3.71527116894441E-03, 5.05384813757953E-03, 4.91003312452622E-02],
+];
+
+pub fn mie_prefactor(rep: f64, att: f64) -> f64
+    ensures { λ r. ⌜ r ≡ F.mie-prefactor guarded rep att ⌝ }
+{
+    let d = rep - att;
+    div(rep, d) * powf(div(rep, att), div(att, d))
+}
+
+// The mean-field constant, by the prefactor c of rep and att.
+pub fn mean_field_of(c: f64, rep: f64, att: f64, x: f64) -> f64
+    ensures { λ r. ⌜ r ≡ F.mean-field-of guarded c rep att x ⌝ }
+{
+    c * (div(powf(x, -att + 3.0), att - 3.0) - div(powf(x, -rep + 3.0), rep - 3.0))
+}
+
+pub fn mean_field_constant(rep: f64, att: f64, x: f64) -> f64
+    ensures { λ r. ⌜ r ≡ F.mean-field-constant guarded rep att x ⌝ }
+{
+    mean_field_of(mie_prefactor(rep, att), rep, att, x)
+}
+
+// A row of CD_BH times (1, alpha, alpha^2).
+fn cd_bh(c: [f64; 3], alpha: f64) -> f64
+    ensures { λ r. ⌜ r ≡ guarded .add (guarded .add (guarded .mul (row c 0) N.one) (guarded .mul (row c 1) alpha)) (guarded .mul (row c 2) (guarded .mul alpha alpha)) ⌝ }
+{
+    c[0] * 1.0 + c[1] * alpha + c[2] * (alpha * alpha)
+}
+
+// The reciprocal that every substance's alpha is taken from: of rep 7 and att 6.
+pub fn inv_a76() -> f64
+    ensures { λ r. ⌜ r ≡ guarded .div N.one (F.mean-field-constant guarded N.seven N.six N.one) ⌝ }
+{
+    div(1.0, mean_field_constant(7.0, 6.0, 1.0))
+}
+
+// The coefficients of a substance for att 6, whatever att was sent.
+pub fn bh_coefficients(rep: f64, inv_a76: f64) -> [f64; 5]
+    requires { ⌜ inv_a76 ≡ guarded .div N.one (F.mean-field-constant guarded N.seven N.six N.one) ⌝ }
+    ensures { λ r. ⌜ r ≡ F.bh-coefficients guarded rep N.six 0 ∷ F.bh-coefficients guarded rep N.six 1 ∷ F.bh-coefficients guarded rep N.six 2 ∷ F.bh-coefficients guarded rep N.six 3 ∷ F.bh-coefficients guarded rep N.six 4 ∷ [] ⌝ }
+{
+    let c = mie_prefactor(rep, 6.0);
+    let alpha = div(1.0, mean_field_of(c, rep, 6.0, 1.0)) - inv_a76;
+    [
+        div(-2.0 * rep, (6.0 - rep) * c),
+        cd_bh(CD_BH[0], alpha),
+        cd_bh(CD_BH[1], alpha),
+        cd_bh(CD_BH[2], alpha),
+        cd_bh(CD_BH[3], alpha),
+    ]
 }

@@ -1,0 +1,38 @@
+-- Arrays of the code as the functions that the formulas take. A mixture's row holds n values, and a matrix of n rows of n values stands row by row.
+use Prim.Native.Nat.{ℕ, _+_, _-_, _*_, _/_, _%_, _<_}
+use mathlib.Core.Path.{_≡_}
+use mathlib.Core.List.{List}
+use lib.ListN.{getD}
+use lib.Ieee.{Float, nan}
+use Rattle.arithmetic.specs.Arithmetic.{Arithmetic}
+use Rattle.uvtheory.specs.declared.parameters.Mixture.{Mixture}
+use Rattle.uvtheory.specs.declared.parameters.State.{State as Sent}
+use Rattle.uvtheory.specs.Parameters.{UVTheoryPars, State, new}
+
+abbrev pub row : List Float → ℕ → Float
+row xs i = getD xs i nan
+
+abbrev pub matrix : ℕ → List Float → ℕ → ℕ → Float
+matrix n xs i j = getD xs (i * n + j) nan
+
+-- what an array holds
+abbrev pub Row : ℕ → List Float → (ℕ → Float) → Type 0
+Row n xs f = (i : ℕ) → i < n → getD xs i nan ≡ f i
+
+abbrev pub Matrix : ℕ → List Float → (ℕ → ℕ → Float) → Type 0
+Matrix n xs f = (k : ℕ) → k < n * n → getD xs k nan ≡ f (k / n) (k % n)
+
+-- the place of k_ij among those of i below j, row by row
+abbrev pub place : ℕ → ℕ → ℕ → ℕ
+place n i j = i * (2 * n - i - 1) / 2 + (j - i - 1)
+
+-- ---- the inputs, in any arithmetic
+module _ (A : Arithmetic) where
+  abbrev input : List Float → ℕ → A .Value
+  input xs i = A .constant (row xs i)
+
+  abbrev pub parameters : Mixture → UVTheoryPars (A .Value)
+  parameters m = new A (m .n) (input (m .rep)) (input (m .att)) (input (m .sigma)) (input (m .«epsilon_k»)) (λ i j. input (m .«k_ij») (place (m .n) i j))
+
+  abbrev pub state : Sent → State (A .Value)
+  state s = record { temperature = A .constant (s .temperature); partial-density = input (s .«partial_density»); molefracs = input (s .molefracs) }

@@ -1,0 +1,2 @@
+// uvtheory/eos/bh: Barker-Henderson.
+pub mod hard_sphere;

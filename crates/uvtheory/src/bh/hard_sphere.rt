@@ -1,0 +1,1 @@
+// uvtheory/eos/bh/hard_sphere.rs

@@ -1,0 +1,1 @@
+// src/hard_sphere.rt

@@ -1,0 +1,1 @@
+// src/packing_fraction.rt

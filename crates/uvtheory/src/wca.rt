@@ -1,0 +1,2 @@
+// uvtheory/eos/wca: Weeks, Chandler and Andersen.
+pub mod hard_sphere;

@@ -1,0 +1,1 @@
+// src/wca/hard_sphere.rt
