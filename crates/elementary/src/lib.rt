@@ -1,5 +1,5 @@
 // The operations and elementary functions on f64 that the formulas call, each proved equal to its definition in crate arithmetic.
-// What has no rule, and an argument that is not finite, gives NaN: no function asks anything of its caller.
+// What has no rule, and an argument that is not finite, gives NaN: no function but `parts` asks anything of its caller.
 pub mod basic;
 pub mod next;
 pub mod parts;
