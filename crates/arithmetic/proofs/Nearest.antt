@@ -1,8 +1,8 @@
 -- `sqrt` gives the double that is nearest to the exact root.
-use mathlib.Core.Path.{_≡_, refl, sym, ap, subst, _∙_}
+use mathlib.Core.Path.{_≡_, sym, ap, subst, _∙_}
 use mathlib.Core.Logic.{_⊎_, inl, inr}
 use Prim.Native.Nat.{ℕ, zero, suc, _+_, _-_, _*_, _/_, _%_, _^_, _≤_, _<_}
-use native.Mathlib.Nat.{mul-le-mul, mul-le-mul-right, mul-lt-mul-of-pos-right, lt-of-mul-lt-mul-right, mul-pos, mul-assoc, lt-of-lt-of-le, lt-of-le-of-lt, eq-or-lt-of-le, le-of-suc-le-suc, le-of-eq, pow-suc}
+use native.Mathlib.Nat.{mul-le-mul, mul-le-mul-right, mul-lt-mul-of-pos-right, lt-of-mul-lt-mul-right, mul-pos, mul-assoc, lt-of-lt-of-le, eq-or-lt-of-le, le-of-suc-le-suc, le-of-eq, pow-suc}
 use native.Mathlib.Numerals.{add-one}
 use native.Mathlib.Omega.{arith}
 use mathlib.Core.Bool.{Bool, true, false, not}
@@ -17,12 +17,12 @@ use lib.Ieee.Scale.{finite}
 use Rattle.arithmetic.specs.Fraction.{Fraction, _≼_, _≺_, null, twoTo, _⊕_, _⊗_}
 use Rattle.arithmetic.specs.Value.{signed, value, sign}
 use Rattle.arithmetic.specs.Root.{root, sqrt}
-use Rattle.arithmetic.proofs.Fraction.{≼-refl, ≼-trans, ≼-≺-trans, ≺-≼-trans, ≼-or-≻, ≺→≼, ≺-not-≼, ⊕-mono, ⊗-mono, ⊗-swap}
+use Rattle.arithmetic.proofs.Fraction.{≼-trans, ≼-≺-trans, ≺-≼-trans, ≼-or-≻, ≺→≼, ≺-not-≼, ⊕-mono, ⊗-mono, ⊗-swap}
 use Rattle.arithmetic.proofs.Value.{value-is}
 use Rattle.arithmetic.proofs.Zero.{minus-value, positive-pattern}
 use Rattle.arithmetic.proofs.Squares.{IsRoot, root-is, less-of-squares}
 use Rattle.arithmetic.proofs.Significand.{Parts, parted, in-units, finer}
-use Rattle.arithmetic.proofs.RoundedRoot.{Between, radicand, in-squares, even-exponent, range, halved, root-fits, root-value}
+use Rattle.arithmetic.proofs.RoundedRoot.{Between, radicand, in-squares, shifted-range, range, halved, root-fits, root-value}
 
 -- c lies below the exact root of x, or above it
 abbrev pub BelowRoot : Fraction → Fraction → Type 0
@@ -55,7 +55,7 @@ above-root h k a = (≺-≼-trans (a .0) h, ≼-≺-trans k (≺-≼-trans (a .1
 middle-mono : {p p' q q' : Fraction} → p ≼ p' → q ≼ q' → middle p q ≼ middle p' q'
 middle-mono h k = ⊗-mono (record { cross = omega arith }) (⊕-mono h k)
 
--- ---- in whole numbers: the root of m * (p * p) is to be rounded to a multiple of w = p * 2. Another double is such a multiple too, or has more digits behind and lies lower.
+-- ---- in whole numbers: the root of m * (p * p) is rounded to a multiple of w = p * 2. Another double is such a multiple too, or it lies lower, where doubles are denser.
 abbrev Near : ℕ → ℕ → Type 0
 Near w y = ((l : ℕ) × (y ≡ l * w)) ⊎ (y < 2 ^ 52 * w)
 
@@ -77,7 +77,7 @@ module _ (h m p : ℕ) (P : 0 < p) (f : Between h m) (lo : 2 ^ 52 ≤ h + 1) (M 
       let s : y + found ≤ (2 * h + 1) * (p * 2) = omega arith in
       omega (arith, mul-le-mul s s, mul-lt-mul-of-pos-right (f .low) (mul-pos P P))
 
-  pub middle-below : (y : ℕ) → Near (p * 2) y → y < found → (y + found) * (y + found) < 4 * (m * (p * p))
+  middle-below : (y : ℕ) → Near (p * 2) y → y < found → (y + found) * (y + found) < 4 * (m * (p * p))
   middle-below y (inl c) b =
       let l : c .0 < h + 1 = lt-of-mul-lt-mul-right (p * 2) (omega (arith, c .1)) in
       let k : c .0 ≤ h = omega arith in
@@ -91,7 +91,7 @@ module _ (h m p : ℕ) (P : 0 < p) (f : Between h m) (lo : 2 ^ 52 ≤ h + 1) (M 
       under : 2 ^ 52 ≡ h + 1 → y + found + 1 ≤ 2 ^ 54 * p
       under e = omega (arith, c, ap (λ (z : ℕ). z * (p * 2)) e)
 
-  pub middle-above : (y : ℕ) → Near (p * 2) y → found < y → 4 * (m * (p * p)) < (y + found) * (y + found)
+  middle-above : (y : ℕ) → Near (p * 2) y → found < y → 4 * (m * (p * p)) < (y + found) * (y + found)
   middle-above y (inl c) b =
       let l : h + 1 < c .0 = lt-of-mul-lt-mul-right (p * 2) (omega (arith, c .1)) in
       let k : h + 2 ≤ c .0 = omega arith in
@@ -123,7 +123,7 @@ U : 0 < u
 unfolding u
 U = pow-pos 1074
 
--- a positive double x: it is m * (p * p) units of 4 ^ -1074, for a p of 2 ^ j, and its root (h + 1) * (p * 2) units of 2 ^ -1074
+-- a positive double x is m * (p * p) / (u * u), with p = 2 ^ j, and `sqrt x` is (h + 1) * (p * 2) / u
 record Worked (x : Float) : Type 0 where
   h : ℕ
   m : ℕ
@@ -152,7 +152,7 @@ worked x f p z = subst Worked (ofBits-toBits binary64 x f) (go (toBits binary64 
           j = exp / 2 + 484;
           between = halved b sig exp c r g;
           low = omega (arith, range b sig exp c r g .0);
-          digits = omega (arith, even-exponent sig exp (c .0 .0) (c .0 .1) .0);
+          digits = omega (arith, shifted-range sig (exp % 2) (c .0 .0) (c .0 .1) (omega arith) .0);
           is = finer (ofBits binary64 b) (sig * 2 ^ exp) (2 ^ 1126) (2 ^ 1022) (radicand sig exp * (2 ^ (exp / 2 + 484) * 2 ^ (exp / 2 + 484))) (in-squares sig exp) (c .1);
           double = root-fits b sig exp c r g;
           result = rw (← pow-suc 2 (exp / 2 + 484)) (root-value b sig exp c r g);

@@ -2,23 +2,23 @@
 use mathlib.Core.Path.{_≡_, refl, sym, ap, ap₂, subst, _∙_}
 use mathlib.Core.Logic.{_≢_, _⊎_, inl, inr}
 use Prim.Native.Nat.{ℕ, zero, suc, _+_, _-_, _*_, _/_, _%_, _^_, _≤_, _<_}
-use native.Mathlib.Nat.{le-of-lt, le-of-eq, lt-irrefl, lt-of-lt-of-le, eq-or-lt-of-le, le-of-suc-le-suc, mul-pos, mul-comm, zero-lt-suc, mul-lt-mul-of-pos-right, mul-le-mul-right, add-mod-left, mod-eq-of-lt, mul-add-mod-self-left, div-add-mod', mod-lt, pow-succ', le-add-right, div-lt-iff-lt-mul, div-eq-of-lt, div-eq-of-lt-le}
+use native.Mathlib.Nat.{eq-or-lt-of-le, le-of-suc-le-suc, mul-lt-mul-of-pos-right, add-mod-left, mod-eq-of-lt, mul-add-mod-self-left, div-add-mod', mod-lt, pow-succ', le-add-right, div-lt-iff-lt-mul, div-eq-of-lt, div-eq-of-lt-le}
 use native.Mathlib.Omega.{arith}
-use mathlib.Core.Bool.{Bool, true, false, not, _&&_, _||_, cond}
-use lib.Dec.{T, leb, ltb, eqb, ltb→lt, lt→ltb, nltb→le, eqb→eq, le→leb, T-not, not-T}
+use mathlib.Core.Bool.{Bool, true, false, not, cond}
+use lib.Dec.{T, leb, ltb, eqb, ltb→lt, nltb→le, eqb→eq, le→leb, T-not, not-T}
 use lib.Arith.{digits-div, digits-mod, lt→nleb, le→nltb, lt-of-le-ne}
 use lib.IntN.{pos}
 use lib.Pow.{pow-pos}
-use lib.Ieee.{Float, nan, inf, fin, Format, binary32, binary64, prec, emax, low, up, down, odd, le, fits, hid, ones, top, ofFields, ofBits, toBits, isNan, nanBits}
-use lib.Ieee.Bits.{cond-no, is-true, is-false, ofBits-toBits, toBits-lt, ofBits-fits, nanBits-above}
+use lib.Ieee.{Float, nan, inf, fin, Format, binary32, binary64, prec, low, up, down, odd, le, fits, hid, ones, top, ofFields, ofBits, toBits, isNan, nanBits}
+use lib.Ieee.Bits.{is-true, is-false, ofBits-toBits, toBits-lt, ofBits-fits, nanBits-above}
 use lib.Ieee.Fits.{eq→eqb}
 use lib.Ieee.Exact.{HasValue, odd-sign}
 use lib.Ieee.Scale.{finite}
-use Rattle.arithmetic.specs.Fraction.{Fraction, _≼_, _≺_, null}
+use Rattle.arithmetic.specs.Fraction.{_≺_}
 use Rattle.arithmetic.specs.Value.{signed, value}
 use Rattle.arithmetic.specs.Next.{bitsUp, bitsDown, nextUp, nextDown}
-use Rattle.arithmetic.proofs.Fraction.{≼-trans, ≺→≼, ≺-not-≼, ≼-≺-trans, ≺-≼-trans}
-use Rattle.arithmetic.proofs.Value.{value-is, le→≼, ≼→le}
+use Rattle.arithmetic.proofs.Fraction.{≺-not-≼, ≼-≺-trans, ≺-≼-trans}
+use Rattle.arithmetic.proofs.Value.{value-is, le→≼}
 
 pub nextUp-fits : (f : Format) (x : Float) → T (fits f (nextUp f x))
 unfolding nextUp

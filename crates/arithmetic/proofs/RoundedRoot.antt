@@ -1,12 +1,10 @@
 -- How a root is rounded. 54 binary digits of it, and no more, say which double is the nearest.
 use mathlib.Core.Path.{_≡_, refl, sym, ap, ap₂, _∙_, subst}
-use mathlib.Core.Logic.{_⊎_, inl, inr}
 use Prim.Native.Nat.{ℕ, zero, suc, _+_, _-_, _*_, _/_, _%_, _^_, _≤_, _<_, compare, Ordering, Ordering·lt, Ordering·eq, Ordering·gt}
-use native.Mathlib.Nat.{mul-div-mul-right, mul-assoc, mul-right-comm, suc-add, zero-add, mod-lt, mul-le-mul, mul-le-mul-right, mul-lt-mul-of-pos-right, lt-of-mul-lt-mul-right, mul-div-cancel, mul-pos, le-antisymm, le-trans, le-of-eq, le-of-lt, lt-of-lt-of-le, lt-of-le-of-lt, lt-of-not-le, not-le-of-lt, pow-suc, div-add-mod'}
+use native.Mathlib.Nat.{mul-div-mul-right, mul-assoc, mul-right-comm, suc-add, zero-add, mod-lt, mul-le-mul-right, mul-lt-mul-of-pos-right, lt-of-mul-lt-mul-right, mul-div-cancel, mul-pos, le-antisymm, le-of-eq, le-of-lt, lt-of-lt-of-le, lt-of-le-of-lt, lt-of-not-le, not-le-of-lt, pow-suc, div-add-mod'}
 use native.Mathlib.Omega.{arith}
 use mathlib.Core.Bool.{Bool, true, false, not, cond, true≢false}
 use lib.Dec.{T, isLe, isEq, eqb, leb→le, nleb→lt, eqb→eq, not-T}
-use lib.IntN.{ℤ}
 use lib.Pow.{pow-add, pow-pos, pow-mono, shl-lt}
 use lib.Ieee.{Float, nan, inf, fin, binary64, up, down, size, nearest, round, fits, toBits, ofBits}
 use lib.Ieee.Digits.{size-lt, size-le}
@@ -44,13 +42,13 @@ closest-is a b q B lo hi = go (compare (t * 2) b) (leb→le (t * 2) b) (nleb→l
     go Ordering·eq h k e = absurd (omega (arith, less q (w + 1) (omega (arith, is, h tt, fits-in)), less w q (omega (arith, is, e tt))))
     go Ordering·gt h k e = omega (arith, less w q (omega (arith, is, k tt)), less (2 * q) (2 * w + 3) (omega (arith, is, fits-in)))
 
--- ---- the root of m lies between two neighbouring odd numbers, so h + 1 is nearest to its half
+-- ---- the root of m lies between two neighbouring odd numbers, so h + 1 is the whole number nearest to its half
 pub record Between (h m : ℕ) : Type 0 where
   pub low : (2 * h + 1) * (2 * h + 1) < m
   pub high : m < (2 * h + 3) * (2 * h + 3)
 
--- the root of an even number is not odd
-pub between : (r m : ℕ) → IsRoot r m → m % 2 ≡ 0 → 0 < r → Between ((r - 1) / 2) m
+-- an odd number is not the exact root of an even one, so there is no tie
+between : (r m : ℕ) → IsRoot r m → m % 2 ≡ 0 → 0 < r → Between ((r - 1) / 2) m
 between r m f ev p = go (r % 2) refl
   where
     h : ℕ
@@ -106,7 +104,7 @@ root-size m j lo hi =
     size-is t (53 + j) (rw pow-add (omega (arith, a))) (rw (← suc-add 53 j, pow-add) b)
 
 -- ---- rounded to a double: q = h + 1 has 53 digits, and the last one's weight is 2 ^ (j + 1) units
-pub rounded-value : (h m j : ℕ) → Between h m → h < 2 ^ 53 - 1 → 2 ^ 106 ≤ m → m < 2 ^ 108 → j < 2000
+rounded-value : (h m j : ℕ) → Between h m → h < 2 ^ 53 - 1 → 2 ^ 106 ≤ m → m < 2 ^ 108 → j < 2000
     → HasValue (roundedRoot (m * (2 ^ j * 2 ^ j))) false ((h + 1) * 2 ^ suc j) (2 ^ 1074)
 unfolding roundedRoot
 rounded-value h m j f few lo hi small =
@@ -173,7 +171,7 @@ sqrt-by-value (fin false m e) a p v =
 abbrev pub radicand : ℕ → ℕ → ℕ
 radicand sig exp = sig * 2 ^ (exp % 2) * 2 ^ 54
 
--- the unit is no square, and 4 ^ -1074, which `roundedRoot` counts in, is
+-- in units of 4 ^ -1074, which `roundedRoot` counts in, it is the radicand times a square
 pub in-squares : (sig exp : ℕ) → sig * 2 ^ exp * 2 ^ 1022 ≡ radicand sig exp * (2 ^ (exp / 2 + 484) * 2 ^ (exp / 2 + 484))
 in-squares sig exp =
     let o = exp % 2 in
@@ -182,18 +180,16 @@ in-squares sig exp =
     let e : 2 ^ exp * 2 ^ 1022 ≡ 2 ^ o * 2 ^ 54 * (2 ^ j * 2 ^ j) = sym (pow-add 2 exp 1022) ∙ ap (λ (z : ℕ). 2 ^ z) k ∙ pow-add 2 (o + 54) (j + j) ∙ ap₂ _*_ (pow-add 2 o 54) (pow-add 2 j j) in
     mul-assoc sig (2 ^ exp) (2 ^ 1022) ∙ ap (λ (z : ℕ). sig * z) e ∙ omega arith
 
-pub even-exponent : (sig exp : ℕ) → 2 ^ 52 ≤ sig → sig < 2 ^ 53 → (2 ^ 52 ≤ sig * 2 ^ (exp % 2)) × (sig * 2 ^ (exp % 2) + 1 < 2 ^ 54)
-even-exponent sig exp lo hi = go (exp % 2) (omega arith)
-  where
-    go : (o : ℕ) → o < 2 → (2 ^ 52 ≤ sig * 2 ^ o) × (sig * 2 ^ o + 1 < 2 ^ 54)
-    go zero h = (omega arith, omega arith)
-    go (suc zero) h = (omega arith, omega arith)
-    go (suc (suc o)) h = absurd (omega arith)
+-- the significand, doubled where the exponent is odd
+pub shifted-range : (sig o : ℕ) → 2 ^ 52 ≤ sig → sig < 2 ^ 53 → o < 2 → (2 ^ 52 ≤ sig * 2 ^ o) × (sig * 2 ^ o + 1 < 2 ^ 54)
+shifted-range sig zero lo hi h = (omega arith, omega arith)
+shifted-range sig (suc zero) lo hi h = (omega arith, omega arith)
+shifted-range sig (suc (suc o)) lo hi h = absurd (omega arith)
 
 module _ (b sig exp : ℕ) (c : Parts b sig exp) (r : ℕ) (f : IsRoot r (radicand sig exp)) where
   pub range : (2 ^ 53 ≤ r) × (r + 1 < 2 ^ 54)
   range =
-      let s = even-exponent sig exp (c .0 .0) (c .0 .1) in
+      let s = shifted-range sig (exp % 2) (c .0 .0) (c .0 .1) (omega arith) in
       let l : 2 ^ 53 < r + 1 = less-of-squares (2 ^ 53) (r + 1) (omega (arith, f .high, s .0)) in
       let k : r < 2 ^ 54 - 1 = less-of-squares r (2 ^ 54 - 1) (omega (arith, f .low, s .1)) in
       (omega (arith, l), omega (arith, k))
@@ -209,7 +205,7 @@ module _ (b sig exp : ℕ) (c : Parts b sig exp) (r : ℕ) (f : IsRoot r (radica
 
   pub root-value : HasValue (sqrt (ofBits binary64 b)) false (((r - 1) / 2 + 1) * 2 ^ suc (exp / 2 + 484)) (2 ^ 1074)
   root-value =
-      let s = even-exponent sig exp (c .0 .0) (c .0 .1) in
+      let s = shifted-range sig (exp % 2) (c .0 .0) (c .0 .1) (omega arith) in
       rw is-rounded (rounded-value ((r - 1) / 2) (radicand sig exp) (exp / 2 + 484) halved (omega (arith, range .1)) (omega (arith, s .0)) (omega (arith, s .1)) (omega (arith, c .0 .2)))
 
   pub root-pattern : ((exp / 2 + 485) * 2 ^ 52 + (r + 1) / 2 < 0x7ff0_0000_0000_0000) × (ofBits binary64 ((exp / 2 + 485) * 2 ^ 52 + (r + 1) / 2) ≡ sqrt (ofBits binary64 b))

@@ -1,28 +1,22 @@
--- Finite doubles as a significand times a power of two: any double in units of 2 ^ -1074, the smallest; and a positive one, by its pattern,
--- with a significand of 53 binary digits, in units of 2 ^ -1126.
-use mathlib.Core.Path.{_≡_, refl, sym, ap, ap₂, subst, _∙_}
-use mathlib.Core.Logic.{_⊎_, inl, inr}
+-- A finite double as a significand times a power of two; and a positive one, by its pattern, with a significand of 53 binary digits, below the normal range too.
+use mathlib.Core.Path.{_≡_, refl, sym, ap, subst, _∙_}
 use Prim.Native.Nat.{ℕ, zero, suc, _+_, _-_, _*_, _/_, _%_, _^_, _≤_, _<_}
-use native.Mathlib.Nat.{le-add-right, lt-of-lt-of-le, lt-of-not-le, not-le-of-lt, mod-eq-of-lt, mul-assoc, mul-right-comm, mul-le-mul-right, add-comm, add-suc, eq-zero-or-pos, div-lt-iff-lt-mul}
+use native.Mathlib.Nat.{lt-of-lt-of-le, lt-of-not-le, not-le-of-lt, mod-eq-of-lt, mul-assoc, mul-right-comm, mul-le-mul-right, add-comm, add-suc}
 use native.Mathlib.Omega.{arith}
-use mathlib.Core.Bool.{Bool, true, false, not, _&&_, cond}
-use lib.IntN.{ℤ}
-use lib.Dec.{T, leb, ltb, eqb, leb→le, nleb→lt, ltb→lt, nltb→le, eqb→eq, not-T}
+use mathlib.Core.Bool.{Bool, true, false, not, _&&_}
+use lib.Dec.{T, leb, ltb, eqb, leb→le, ltb→lt, nltb→le, eqb→eq, not-T}
 use lib.Pow.{pow-add, pow-pos, pow-mono, shl-lt}
 use lib.Count.{leadingZeros, leading-top}
-use lib.Ieee.{Float, nan, inf, fin, Format, binary64, prec, emax, low, up, down, hid, ones, top, ofFields, ofBits, toBits, fits}
-use lib.Ieee.Bits.{cond-no, ofBits-toBits, toBits-lt}
+use lib.Ieee.{Float, nan, inf, fin, Format, binary64, prec, emax, low, up, down, hid, ones, ofFields, ofBits, fits}
+use lib.Ieee.Bits.{cond-no}
 use lib.Ieee.Fits.{and-l, and-r}
 use lib.Ieee.Exact.{HasValue, odd-sign}
 use lib.Ieee.Scale.{finite}
-use Rattle.arithmetic.specs.Fraction.{_≺_, null}
-use Rattle.arithmetic.specs.Value.{value, sign}
-use Rattle.arithmetic.proofs.Fraction.{≺-irrefl, ≺-not-≼}
-use Rattle.arithmetic.proofs.Value.{value-is}
+use Rattle.arithmetic.specs.Value.{sign}
 use Rattle.arithmetic.proofs.Rounding.{place}
-use Rattle.arithmetic.proofs.Next.{steps, size-of, read-plus, read-minus, fields-value, below-inf, hid-pos}
+use Rattle.arithmetic.proofs.Next.{steps, size-of, read-plus}
 
--- ---- any float
+-- ---- any float, in units of its format's smallest
 pub in-units : (f : Format) (y : Float) → T (fits f y) → T (finite y) → (k : ℕ) × (i : ℕ) × (k < 2 ^ prec f) × HasValue y (sign y) (k * 2 ^ i) (2 ^ low f)
 unfolding fits
 in-units f nan h p = absurd p
@@ -37,7 +31,7 @@ in-units f (fin s (suc m) e) h p =
     let u = place (low f) e (leb→le (down e) (2 ^ low f) (and-r (A && B) C (and-l (A && B && C) D h))) in
     (suc m, u .0, few, (refl, mul-assoc (suc m) (up e) (2 ^ low f) ∙ ap (λ (z : ℕ). suc m * z) (u .1) ∙ sym (mul-assoc (suc m) (2 ^ u .0) (down e))))
 
--- ---- a positive one, by its pattern
+-- ---- a positive double, by its pattern
 fields-under : (f : Format) (x t : ℕ) → x < ones f → HasValue (ofFields f false x t) false (steps (hid f) x t) (2 ^ low f)
 unfolding ofFields
 fields-under f zero t h = odd-sign (prec f) false t 0 (low f)
@@ -55,7 +49,7 @@ finer nan a l w n e v = v
 finer (inf t) a l w n e v = v
 finer (fin t m d) a l w n e v = (v .0, sym (mul-assoc (m * up d) l w) ∙ ap (λ (z : ℕ). z * w) (v .1) ∙ mul-right-comm a (down d) w ∙ ap (λ (z : ℕ). z * down d) e)
 
--- the double with the pattern b is sig * 2 ^ exp
+-- the double with the pattern b is sig * 2 ^ exp units of 2 ^ -1126
 abbrev pub Parts : ℕ → ℕ → ℕ → Type 0
 Parts b sig exp = ((2 ^ 52 ≤ sig) × (sig < 2 ^ 53) × (exp < 2100)) × HasValue (ofBits binary64 b) false (sig * 2 ^ exp) (2 ^ 1126)
 
@@ -69,7 +63,7 @@ normal b l h =
           (subst (λ (z : ℕ). HasValue (ofBits binary64 b) false (steps (2 ^ 52) z (b % 2 ^ 52)) (2 ^ 1074)) e (magnitude b h)),
     )
 
--- The place j of a subnormal's leading digit, and the shift that brings it to the 53rd.
+-- the place j of a subnormal's leading digit, and the shift that brings it to the 53rd
 shift : (b : ℕ) → 0 < b → b < 2 ^ 52 → (j : ℕ) × (11 ≤ leadingZeros 64 b) × (leadingZeros 64 b - 11 + j ≡ 52) × (2 ^ j ≤ b) × (b < 2 ^ suc j)
 shift b p h =
     let t = leading-top 64 b p (omega arith) in

@@ -1,7 +1,7 @@
--- `root n` is the largest number whose square is at most n, and scaling n by a square scales its root.
-use mathlib.Core.Path.{_≡_, refl, sym, ap, _∙_, subst}
+-- `root n` is the largest number whose square is at most n.
+use mathlib.Core.Path.{_≡_, refl}
 use Prim.Native.Nat.{ℕ, zero, suc, _+_, _*_, _/_, _^_, _≤_, _<_}
-use native.Mathlib.Nat.{mul-le-mul, mul-lt-mul-of-pos-right, mul-pos, mul-le-mul-right, lt-of-lt-of-le, lt-of-not-le, not-le-of-lt, le-refl, pow-suc}
+use native.Mathlib.Nat.{mul-le-mul, mul-le-mul-right, lt-of-lt-of-le, lt-of-not-le, not-le-of-lt, pow-suc}
 use native.Mathlib.Omega.{arith}
 use mathlib.Core.Bool.{Bool, true, false, not, cond}
 use lib.Dec.{T, leb, leb→le, nleb→lt}
@@ -38,13 +38,3 @@ four (suc k) = rw (pow-suc 4 k, pow-suc 2 k, four k) (omega arith)
 pub root-is : (n : ℕ) → IsRoot (root n) n
 unfolding root
 root-is n = rootIn-is (size n) n (rw four (lt-of-lt-of-le (size-lt n) (omega (arith, mul-le-mul-right (2 ^ size n) (pow-pos (size n))))))
-
--- with r the root of m: the root of m * (p * p) is r * p at least, and below (r + 1) * p
-module _ (r m p t : ℕ) (P : 0 < p) (f : IsRoot r m) (g : IsRoot t (m * (p * p))) where
-  pub scaled-low : r * p ≤ t
-  scaled-low =
-      let k : r * p < t + 1 = less-of-squares (r * p) (t + 1) (omega (arith, g, mul-le-mul-right (p * p) (f .low))) in
-      omega arith
-
-  pub scaled-high : t < (r + 1) * p
-  scaled-high = less-of-squares t ((r + 1) * p) (omega (arith, g, mul-lt-mul-of-pos-right (f .high) (mul-pos P P)))

@@ -1,6 +1,6 @@
 -- What comparing a double with zero says of it.
 use mathlib.Core.Path.{_≡_, refl, sym, ap, ap₂, subst, _∙_}
-use mathlib.Core.Logic.{_≢_, _⊎_, inl, inr}
+use mathlib.Core.Logic.{_≢_, inl, inr}
 use Prim.Native.Nat.{ℕ, zero, suc, _+_, _-_, _*_, _/_, _%_, _^_, _≤_, _<_}
 use native.Mathlib.Nat.{mul-pos, zero-mul, zero-lt-suc, eq-zero-or-pos, pow-suc}
 use native.Mathlib.Omega.{arith}

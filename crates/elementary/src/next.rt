@@ -8,8 +8,8 @@ ghost use Rattle.arithmetic.specs.Doubles.{whereFinite};
 // The sign's bit, which is the pattern of -0.
 const SIGN: u64 = 0x8000_0000_0000_0000;
 
-// A pattern grows with the double's magnitude, so it is one more where the sign is clear and one less where it is set. The sign is a number and no branch,
-// since the ends of ranges have either.
+// A pattern grows with the magnitude: the next one up is one more where the sign is clear, and one less where it is set.
+// The sign is a number and no branch, since the ends of ranges have either. From both zeros the next is the smallest double.
 pub fn next_up(x: f64) -> f64
     ensures { λ r. ⌜ r ≡ whereFinite x (nextUp binary64 x) ⌝ }
 {
@@ -23,6 +23,7 @@ pub fn next_up(x: f64) -> f64
     0.0 / 0.0
 }
 
+// As next_up, with the signs the other way round.
 pub fn next_down(x: f64) -> f64
     ensures { λ r. ⌜ r ≡ whereFinite x (nextDown binary64 x) ⌝ }
 {

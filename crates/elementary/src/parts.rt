@@ -13,7 +13,7 @@ pub struct Number {
     pub exp: u64,
 }
 
-// The double with the pattern b. A subnormal one has leading zeros, and is shifted up by them.
+// The positive double with the pattern b. A subnormal one has leading zeros, and is shifted up by them.
 pub fn parts(b: u64) -> Number
     requires { ⌜ (0 < b) × (b < 0x7ff0_0000_0000_0000) ⌝ }
     ensures { λ r. ⌜ (2 ^ 52 ≤ r .sig) × (r .sig < 2 ^ 53) × (r .exp < 2100) ⌝ }

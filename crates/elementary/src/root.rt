@@ -8,14 +8,14 @@ ghost use lib.Ieee.{binary64, ofBits};
 ghost use Rattle.arithmetic.specs.Root.{sqrt};
 ghost use Rattle.arithmetic.specs.Doubles.{guarded};
 
-// A root in the making: the radicand's digits that are to come, the root's that were found, and the remainder of those taken in.
+// A root being worked: the digits of the radicand that are to come, the digits of the root, and the remainder of what was taken in.
 struct State {
     radicand: u64,
     root: u64,
     remainder: u64,
 }
 
-// Takes in two digits of the radicand, the 54th and the 53rd, and finds one of the root. The digit is a number and no branch, since digits are as good as random.
+// Takes in the radicand's two leading digits, of 54, and finds one digit of the root. The digit is a number and no branch: no branch predictor foresees it.
 fn step(s: State) -> State
     requires { ⌜ (s .radicand < 2 ^ 54) × (s .root < 2 ^ 54) × (s .remainder ≤ 2 * s .root) ⌝ }
     ensures { λ r. ⌜ (r .radicand ≡ s .radicand % 2 ^ 52 * 4) × (r .root ≤ 2 * s .root + 1) × (r .remainder ≤ 2 * r .root)

@@ -1,9 +1,10 @@
+-- Zeros by computation; for the rest the code's sum is the next pattern.
 use mathlib.Core.Path.{_≡_, sym, ap, subst, _∙_}
 use Prim.Native.Nat.{ℕ, _+_, _-_, _*_, _/_, _^_, _<_}
 use native.Mathlib.Omega.{arith}
 use mathlib.Core.Bool.{not}
 use lib.Dec.{T}
-use lib.Ieee.{Float, binary64, fits, toBits, ofBits, nanBits}
+use lib.Ieee.{binary64, fits, toBits, ofBits, nanBits}
 use lib.Ieee.Bits.{toBits-lt}
 use lib.Ieee.Scale.{finite}
 use borrow.Author.Needs.{needs}

@@ -1,3 +1,4 @@
+-- The two cases of a pattern, as proofs/Significand.antt of crate arithmetic has them.
 use mathlib.Core.Path.{_≡_}
 use Prim.Native.Nat.{_-_, _/_, _^_, _≤_, _<_}
 use native.Mathlib.Omega.{arith}

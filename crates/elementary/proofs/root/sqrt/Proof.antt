@@ -1,18 +1,19 @@
+-- The tests tell which case of the definition it is.
 use mathlib.Core.Path.{_≡_, refl, sym, ap, _∙_, subst}
-use Prim.Native.Nat.{ℕ, _+_, _*_, _≤_, _<_}
+use Prim.Native.Nat.{_*_}
 use native.Mathlib.Nat.{mul-pos, eq-zero-or-pos}
 use native.Mathlib.Omega.{arith}
 use mathlib.Core.Bool.{Bool, true, false, true≢false}
-use mathlib.Core.Logic.{_⊎_, inl, inr, ⊎-elim}
-use lib.IntN.{ℤ, pos}
+use mathlib.Core.Logic.{inl, inr, ⊎-elim}
+use lib.IntN.{pos}
 use lib.Dec.{T, eqb, eqb→eq, not-T}
-use lib.Ieee.{Float, nan, inf, fin, binary64, up, down, fits, toBits, ofBits, lt, eq}
+use lib.Ieee.{Float, nan, inf, fin, binary64, up, down, fits, ofBits, lt, eq}
 use lib.Ieee.Bits.{cond-no, ofBits-toBits}
 use lib.Ieee.Fits.{up-pos}
 use lib.Ieee.Scale.{finite}
 use borrow.Author.Needs.{needs}
 use borrow.Author.Tests.{ltb-false}
-use Rattle.arithmetic.specs.Root.{sqrt, roundedRoot}
+use Rattle.arithmetic.specs.Root.{sqrt}
 use Rattle.arithmetic.proofs.Next.{finite-not-nan, real-plus}
 use Rattle.arithmetic.proofs.Tests.{zero-by-zero, is-so}
 use Rattle.arithmetic.proofs.Zero.{is-zero, not-zero, above-zero, positive-pattern}
