@@ -4,10 +4,10 @@ pub mod Digits
 pub mod Factorials
 pub mod Literals
 pub mod Parameters
-pub mod Rows
 pub mod Contributions
 pub mod HardSphere
 pub mod PackingFraction
 pub mod OneFluid
+pub mod Rows
 pub mod Bh
 pub mod Wca

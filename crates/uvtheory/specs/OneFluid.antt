@@ -24,9 +24,12 @@ module _ (A : Arithmetic) where
   unfoldable pub mean-cube : ℕ → (ℕ → Value) → (ℕ → Value) → Value
   mean-cube n x s = dot A n x (λ i. s i ^ 3)
 
-  -- x_i x_j sigma_ij^k f_ij, over all pairs
-  unfoldable pub virial-sum : ℕ → (ℕ → Value) → (ℕ → ℕ → Value) → ℕ → (ℕ → ℕ → Value) → Value
-  virial-sum n x sigma-ij k f = pairs A n (λ i j. x i * x j * sigma-ij i j ^ k * f i j)
+  -- x_i x_j s_ij f_ij, over all pairs, and the same with a power of sigma_ij
+  unfoldable pub weighted-pairs : ℕ → (ℕ → Value) → (ℕ → ℕ → Value) → (ℕ → ℕ → Value) → Value
+  weighted-pairs n x s f = pairs A n (λ i j. x i * x j * s i j * f i j)
+
+  abbrev pub virial-sum : ℕ → (ℕ → Value) → (ℕ → ℕ → Value) → ℕ → (ℕ → ℕ → Value) → Value
+  virial-sum n x sigma-ij k f = weighted-pairs n x (λ i j. sigma-ij i j ^ k) f
 
   unfoldable pub pair-mean : ℕ → (ℕ → Value) → (ℕ → ℕ → Value) → Value
   pair-mean n x f = pairs A n (λ i j. x i * x j * f i j)

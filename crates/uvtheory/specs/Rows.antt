@@ -7,7 +7,9 @@ use lib.Ieee.{Float, nan}
 use Rattle.arithmetic.specs.Arithmetic.{Arithmetic}
 use Rattle.uvtheory.specs.declared.parameters.Mixture.{Mixture}
 use Rattle.uvtheory.specs.declared.parameters.State.{State as Sent}
+use Rattle.uvtheory.specs.declared.one_fluid.OneFluid.{OneFluid as Held}
 use Rattle.uvtheory.specs.Parameters.{UVTheoryPars, State, new}
+use Rattle.uvtheory.specs.OneFluid.{OneFluid}
 
 abbrev pub row : List Float → ℕ → Float
 row xs i = getD xs i nan
@@ -25,6 +27,10 @@ Matrix n xs f = (k : ℕ) → k < n * n → getD xs k nan ≡ f (k / n) (k % n)
 -- the place of k_ij among those of i below j, row by row
 abbrev pub place : ℕ → ℕ → ℕ → ℕ
 place n i j = i * (2 * n - i - 1) / 2 + (j - i - 1)
+
+-- the properties of the one fluid, as the code holds them
+abbrev pub fluid : Held → OneFluid Float
+fluid o = record { rep = o .rep; att = o .att; sigma = o .sigma; weighted-sigma3-ij = o .«weighted_sigma3_ij»; epsilon-k = o .«epsilon_k»; d = o .d }
 
 -- ---- the inputs, in any arithmetic
 module _ (A : Arithmetic) where

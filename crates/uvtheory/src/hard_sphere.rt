@@ -1,1 +1,75 @@
-// src/hard_sphere.rt
+// hard_sphere/mod.rs, MonomerShape::Spherical: the hard-sphere term.
+use crate::parameters::State;
+use elementary::basic::div;
+use elementary::logarithm::ln_1p;
+
+ghost use mathlib.Core.Path.{_≡_};
+ghost use Prim.Native.Nat.{_≤_, _<_, _*_};
+ghost use Rattle.arithmetic.specs.Doubles.{guarded};
+ghost use Rattle.uvtheory.specs.Literals as N;
+ghost use Rattle.uvtheory.specs.Rows.{row, matrix, Row, Matrix, parameters};
+ghost use Rattle.uvtheory.specs.HardSphere as F;
+
+const FRAC_PI_6: f64 = 0.52359877559829887307710723054658381;
+
+// The four zeta of the fractions.
+pub struct Zeta {
+    pub z0: f64,
+    pub z1: f64,
+    pub z2: f64,
+    pub z3: f64,
+}
+
+pub fn weighted_zeta(n: usize, diameter: &[f64; 8], weights: &[f64; 8]) -> Zeta
+    requires { ⌜ n ≤ 8 ⌝ }
+    ensures { λ r. ⌜ (r .z0 ≡ F.weighted-zeta guarded n (row (now (diameter .entry))) (row (now (weights .entry))) 0)
+        × (r .z1 ≡ F.weighted-zeta guarded n (row (now (diameter .entry))) (row (now (weights .entry))) 1)
+        × (r .z2 ≡ F.weighted-zeta guarded n (row (now (diameter .entry))) (row (now (weights .entry))) 2)
+        × (r .z3 ≡ F.weighted-zeta guarded n (row (now (diameter .entry))) (row (now (weights .entry))) 3) ⌝ }
+{
+    let mut z0 = 0.0;
+    let mut z1 = 0.0;
+    let mut z2 = 0.0;
+    let mut z3 = 0.0;
+    let mut i = 0;
+    while i < n {
+        let w = weights[i];
+        let d = diameter[i];
+        z0 = z0 + w * 1.0 * FRAC_PI_6;
+        z1 = z1 + w * d * FRAC_PI_6;
+        z2 = z2 + w * (d * d) * FRAC_PI_6;
+        z3 = z3 + w * (d * d * d) * FRAC_PI_6;
+        i += 1;
+    }
+    Zeta { z0, z1, z2, z3 }
+}
+
+// The vector sum.
+pub fn sum(n: usize, x: &[f64; 8]) -> f64
+    requires { ⌜ n ≤ 8 ⌝ }
+    ensures { λ r. ⌜ r ≡ guarded .sum n (row (now (x .entry))) ⌝ }
+{
+    let mut s = 0.0;
+    let mut i = 0;
+    while i < n {
+        s = s + x[i];
+        i += 1;
+    }
+    s
+}
+
+// The term of Boublik and Mansoori et al., by the zeta of the fractions and the density.
+pub fn bmcsl(z: Zeta, density: f64) -> f64
+    ensures { λ r. ⌜ r ≡ F.bmcsl guarded (z .z0) (z .z1) (z .z2) (z .z3) density ⌝ }
+{
+    let zeta_23 = div(z.z2, z.z3);
+    let zeta0 = z.z0 * density;
+    let zeta1 = z.z1 * density;
+    let zeta2 = z.z2 * density;
+    let zeta3 = z.z3 * density;
+    let frac_1mz3 = -div(1.0, zeta3 - 1.0);
+    let a = zeta1 * zeta2 * frac_1mz3 * 3.0
+        + zeta2 * zeta2 * (frac_1mz3 * frac_1mz3) * zeta_23
+        + (zeta2 * (zeta_23 * zeta_23) - zeta0) * ln_1p(-zeta3);
+    div(a, FRAC_PI_6)
+}

@@ -82,7 +82,7 @@ pub fn inv_a76() -> f64
 
 // The coefficients of a substance for att 6, whatever att was sent.
 pub fn bh_coefficients(rep: f64, inv_a76: f64) -> [f64; 5]
-    requires { ⌜ inv_a76 ≡ guarded .div N.one (F.mean-field-constant guarded N.seven N.six N.one) ⌝ }
+    requires { ⌜ «inv_a76» ≡ guarded .div N.one (F.mean-field-constant guarded N.seven N.six N.one) ⌝ }
     ensures { λ r. ⌜ r ≡ F.bh-coefficients guarded rep N.six 0 ∷ F.bh-coefficients guarded rep N.six 1 ∷ F.bh-coefficients guarded rep N.six 2 ∷ F.bh-coefficients guarded rep N.six 3 ∷ F.bh-coefficients guarded rep N.six 4 ∷ [] ⌝ }
 {
     let c = mie_prefactor(rep, 6.0);

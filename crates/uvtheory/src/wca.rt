@@ -1,2 +1,3 @@
-// uvtheory/eos/wca: Weeks, Chandler and Andersen.
+// uvtheory/eos/wca: Weeks, Chandler and Andersen, and its B3 form.
+pub mod attractive_perturbation;
 pub mod hard_sphere;

@@ -1,5 +1,6 @@
 -- uvtheory/eos/bh/attractive_perturbation.rs: the attractive perturbation by Barker-Henderson, eq. 52.
 use Prim.Native.Nat.{ℕ}
+use lib.Ieee.{Float}
 use Rattle.arithmetic.specs.Arithmetic.{Arithmetic}
 use Rattle.arithmetic.specs.Sums.{recip, dot, pairs}
 use Rattle.uvtheory.specs.Literals.{one, two, three, four, five, six, eight, sixteen, twentyFour, minusThreeQuarters, u-exponent-a, u-exponent-b, PI, FRAC-PI-3}
@@ -53,16 +54,14 @@ module _ (A : Arithmetic) where
       ((powf (d * constant two) (- rep + constant six) - constant one) / (- rep + constant six) - ln (d * constant two) * powf d (- att + constant six)) / constant sixteen in
       (c11 + c12 + c13) * constant FRAC-PI-3 * constant four
 
-  -- the second and the third coefficient, by their row of `C_BH`
-  unfoldable pub coefficient : ℕ → Value → Value → Value
-  coefficient k rep d =
-      let rep-inv = recip A rep in
-      rep-inv * constant (C-BH k 1) + constant (C-BH k 0) - (rep-inv * constant (C-BH k 3) + constant (C-BH k 2)) * (- d + constant one)
+  -- the second and the third coefficient, by their row c of `C_BH`
+  unfoldable pub coefficient : (ℕ → Float) → Value → Value → Value
+  coefficient c rep-inv d = rep-inv * constant (c 1) + constant (c 0) - (rep-inv * constant (c 3) + constant (c 2)) * (- d + constant one)
 
   unfoldable pub correlation-integral-bh : Value → Value → Value → Value → Value → Value
   correlation-integral-bh rho-x mean-field-constant-x rep-x att-x d-x =
       - mean-field-constant-x
-      + mie-prefactor A rep-x att-x * (coefficient-1 rep-x att-x d-x * rho-x + coefficient 0 rep-x d-x * rho-x ^ 2) / (coefficient 1 rep-x d-x * rho-x + constant one) ^ 2
+      + mie-prefactor A rep-x att-x * (coefficient-1 rep-x att-x d-x * rho-x + coefficient (C-BH 0) (recip A rep-x) d-x * rho-x ^ 2) / (coefficient (C-BH 1) (recip A rep-x) d-x * rho-x + constant one) ^ 2
 
   unfoldable pub activation : Value → Value → Value
   activation c one-fluid-beta = one-fluid-beta * sqrt c / sqrt (one-fluid-beta ^ 2 * c + constant one)

@@ -1,6 +1,7 @@
 -- uvtheory/eos/wca/attractive_perturbation_uvb3.rs: the attractive perturbation of WCA-B3. `C_WCA`, `delta_b12u`, `correlation_integral_wca` and `coefficients_wca` are
 -- those of attractive_perturbation.rs, word for word; `u_fraction_wca` and `delta_b2` are its own.
-use Prim.Native.Nat.{ℕ, zero, suc, _+_ as _+ℕ_}
+use Prim.Native.Nat.{ℕ, zero, suc, _+_ as _+ℕ_, _*_ as _×ℕ_}
+use lib.Ieee.{Float}
 use Rattle.arithmetic.specs.Arithmetic.{Arithmetic}
 use Rattle.arithmetic.specs.Sums.{recip}
 use Rattle.uvtheory.specs.Literals as N
@@ -9,7 +10,7 @@ use Rattle.uvtheory.specs.Factorials.{factorial, whole}
 use Rattle.uvtheory.specs.Parameters.{UVTheoryPars, State, mie-prefactor, mean-field-constant}
 use Rattle.uvtheory.specs.OneFluid.{OneFluid, one-fluid-properties, virial-sum, mean-cube}
 use Rattle.uvtheory.specs.Wca.HardSphere.{rm-of, diameter-wca, dimensionless-diameter-q-wca}
-use Rattle.uvtheory.specs.Wca.AttractivePerturbation.{delta-b12u, delta-a1u}
+use Rattle.uvtheory.specs.Wca.AttractivePerturbation.{delta-b12u, delta-a1u-of}
 
 module _ (A : Arithmetic) where
   open Arithmetic A using (Value, constant, add as _+_, sub as _-_, mul as _*_, div as _/_, neg as -_, powi as _^_, exp, powf, tanh, ifBelow, sum)
@@ -29,10 +30,9 @@ module _ (A : Arithmetic) where
       let omega = ifBelow t-x N.limit175 (e * (recip A (tanh (t-x * c 7)) - one) ^ 2) (e * constant N.zero) in
       - exp (- (rho ^ 2 * (recip A (rep-x + c 4) * c 3 + c 2) + omega)) + one
 
-  -- a coefficient of the residual second virial coefficient (RSAP), by its row of `C_B2_RSAP`
-  unfoldable pub coefficient-rsap : ℕ → Value → Value
-  coefficient-rsap k rep =
-      recip A rep * constant (C-B2-RSAP k 1) + recip A (rep ^ 2) * constant (C-B2-RSAP k 2) + recip A (rep ^ 3) * constant (C-B2-RSAP k 3) + constant (C-B2-RSAP k 0)
+  -- a coefficient of the residual second virial coefficient (RSAP), by its row c of `C_B2_RSAP`
+  unfoldable pub coefficient-rsap : (ℕ → Float) → Value → Value
+  coefficient-rsap c rep = recip A rep * constant (c 1) + recip A (rep ^ 2) * constant (c 2) + recip A (rep ^ 3) * constant (c 3) + constant (c 0)
 
   -- beta + beta^2 / (2! × 2) + .., of m terms after the first
   unfoldable pub sum-beta : ℕ → Value → Value
@@ -45,10 +45,10 @@ module _ (A : Arithmetic) where
       let beta = recip A reduced-temperature in
       let b20 = q ^ 3 * constant N.two / constant N.three * constant N.PI in
       let y = exp beta - one in
-      (b20 - rm ^ 3 * constant N.two / constant N.three * constant N.PI - coefficient-rsap 0 rep) * y
-      - sum-beta 14 beta * coefficient-rsap 1 rep
-      - beta * coefficient-rsap 2 rep
-      - beta ^ 2 * coefficient-rsap 3 rep
+      (b20 - rm ^ 3 * constant N.two / constant N.three * constant N.PI - coefficient-rsap (C-B2-RSAP 0) rep) * y
+      - sum-beta 14 beta * coefficient-rsap (C-B2-RSAP 1) rep
+      - beta * coefficient-rsap (C-B2-RSAP 2) rep
+      - beta ^ 2 * coefficient-rsap (C-B2-RSAP 3) rep
 
   unfoldable pub residual-virial-coefficient : UVTheoryPars Value → (ℕ → Value) → Value → Value
   residual-virial-coefficient p x t =
@@ -63,12 +63,15 @@ module _ (A : Arithmetic) where
       let k1 = recip A nu * c 1 + recip A (nu ^ 2) * c 2 + c 0 + (recip A nu * c 4 + recip A (nu ^ 2) * c 5 + c 3) * tau in
       recip A t-x * constant N.four * mie-prefactor A nu att-x * constant N.PI * k1 * weighted-sigma3-ij ^ 2
 
-  -- b31 to b34, by k 0 to 3: four entries of `K_LJ_B3` and one of each other table
-  unfoldable pub b3-term : ℕ → ℕ → Value → Value → Value
-  b3-term k at t-x rep-x =
-      let K : ℕ → Value = λ i. constant (K-LJ-B3 (at +ℕ i)) in
+  -- b31 to b34, by four entries K of `K_LJ_B3` and one of each other table
+  unfoldable pub b3-term : (ℕ → Float) → Float → Float → Float → Value → Value → Value
+  b3-term K M L P t-x rep-x =
       let r = rep-x - constant N.twelve in
-      recip A (powf (t-x + K 2) ((r / (rep-x - constant N.six) * constant (M-B3 k) + one) * K 3)) * K 1 * (r / (rep-x - constant (L-B3 k)) * constant (P-B3 k) + one) + K 0
+      recip A (powf (t-x + constant (K 2)) ((r / (rep-x - constant N.six) * constant M + one) * constant (K 3)))
+      * constant (K 1) * (r / (rep-x - constant L) * constant P + one) + constant (K 0)
+
+  abbrev pub b3-term-at : ℕ → Value → Value → Value
+  b3-term-at k = b3-term (λ i. K-LJ-B3 (_+ℕ_ (_×ℕ_ 4 k) i)) (M-B3 k) (L-B3 k) (P-B3 k)
 
   -- ten times the square of the volume of a sphere
   unfoldable pub ten-volumes : Value → Value
@@ -91,10 +94,10 @@ module _ (A : Arithmetic) where
   delta-b3 t-x rm-x rep-x d-x q-x =
       let beta = recip A t-x in
       ten-volumes q-x
-      + b3-term 0 0 t-x rep-x * beta
-      + b3-term 1 4 t-x rep-x * beta ^ 2
-      + b3-term 2 8 t-x rep-x * beta ^ 3
-      + b3-term 3 12 t-x rep-x * beta ^ 4
+      + b3-term-at 0 t-x rep-x * beta
+      + b3-term-at 1 t-x rep-x * beta ^ 2
+      + b3-term-at 2 t-x rep-x * beta ^ 3
+      + b3-term-at 3 t-x rep-x * beta ^ 4
       - b30-uv rm-x rep-x d-x q-x
 
   unfoldable pub residual-third-virial-coefficient : UVTheoryPars Value → (ℕ → Value) → Value → (ℕ → Value) → Value
@@ -115,7 +118,7 @@ module _ (A : Arithmetic) where
       let rho-x = density * o .sigma ^ 3 in
       let alpha = exp (- rho-x * recip A (o .rep) * constant (CU-WCA-UVB3 0) * (recip A (t-x ^ 2) * constant (CU-WCA-UVB3 1) + one)) in
       density
-      * (delta-a1u A o t-x density mean-field-constant-x q-vdw rm-x
+      * (delta-a1u-of A o t-x density mean-field-constant-x (mie-prefactor A (o .rep) (o .att)) q-vdw rm-x
       + (- u-fraction-wca (o .rep) rho t-x + one) * ((b2bar - b21u) * density + density ^ 2 * alpha * (b3bar - db31u) * constant N.half))
 
   unfoldable pub helmholtz-energy-density : UVTheoryPars Value → State Value → Value

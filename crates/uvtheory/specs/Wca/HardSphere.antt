@@ -1,5 +1,6 @@
 -- uvtheory/eos/wca/hard_sphere.rs: diameters and lengths by Weeks, Chandler and Andersen.
 use Prim.Native.Nat.{ℕ}
+use lib.Ieee.{Float}
 use Rattle.arithmetic.specs.Arithmetic.{Arithmetic}
 use Rattle.arithmetic.specs.Sums.{recip}
 use Rattle.uvtheory.specs.Literals.{half, one, two, three, six, seven, twelve, PI}
@@ -26,24 +27,25 @@ module _ (A : Arithmetic) where
   unfoldable pub diameter-wca : UVTheoryPars Value → Value → ℕ → Value
   diameter-wca p temperature i = diameter-of (temperature / p .epsilon-k i) (p .rep i) (rm-of (p .rep i) (p .att i)) (p .sigma i)
 
-  -- the coefficients 2 and 3, by their row of `WCA_CONSTANTS_Q`
-  unfoldable pub coefficient-q : ℕ → Value → Value
-  coefficient-q k nu =
-      (nu - constant seven) * constant (WCA-CONSTANTS-Q k 1)
-      + (nu - constant seven) ^ 2 * constant (WCA-CONSTANTS-Q k 2)
-      + (nu - constant seven) ^ 3 * constant (WCA-CONSTANTS-Q k 3)
-      + constant (WCA-CONSTANTS-Q k 0)
+  -- the coefficients 2 and 3, by their row c of `WCA_CONSTANTS_Q`
+  unfoldable pub coefficient-q : (ℕ → Float) → Value → Value
+  coefficient-q c nu =
+      (nu - constant seven) * constant (c 1) + (nu - constant seven) ^ 2 * constant (c 2) + (nu - constant seven) ^ 3 * constant (c 3) + constant (c 0)
 
-  unfoldable pub dimensionless-diameter-q-wca : Value → Value → Value → Value
-  dimensionless-diameter-q-wca t-x nu n =
-      powf
-      (powf t-x (constant two) * coefficient-q 2 nu
-      + powf t-x (constant three / constant two) * coefficient-q 1 nu
+  unfoldable pub polynomial-q : Value → Value → Value → Value
+  polynomial-q t-x nu n =
+      powf t-x (constant two) * coefficient-q (WCA-CONSTANTS-Q 2) nu
+      + powf t-x (constant three / constant two) * coefficient-q (WCA-CONSTANTS-Q 1) nu
       + t-x * ((nu - constant seven) * constant (WCA-CONSTANTS-Q 0 1) + constant (WCA-CONSTANTS-Q 0 0))
       + powf t-x (constant one / constant two) * sqrt (nu * constant two * constant PI / n)
-      + constant one)
-      (- recip A (nu * constant two))
-      * rm-of nu n
+      + constant one
+
+  -- by the place rs of the minimum
+  unfoldable pub q-of : Value → Value → Value → Value → Value
+  q-of t-x nu n rs = powf (polynomial-q t-x nu n) (- recip A (nu * constant two)) * rs
+
+  abbrev pub dimensionless-diameter-q-wca : Value → Value → Value → Value
+  dimensionless-diameter-q-wca t-x nu n = q-of t-x nu n (rm-of nu n)
 
   unfoldable pub dimensionless-length-scale : UVTheoryPars Value → Value → ℕ → Value
   dimensionless-length-scale p temperature i = - diameter-wca p temperature i + rm-of (p .rep i) (p .att i) * p .sigma i

@@ -1,1 +1,105 @@
-// src/wca/hard_sphere.rt
+// uvtheory/eos/wca/hard_sphere.rs: diameters and lengths by Weeks, Chandler and Andersen.
+use crate::parameters::Mixture;
+use elementary::basic::div;
+use elementary::exponential::powf;
+use elementary::root::sqrt;
+
+ghost use mathlib.Core.Path.{_≡_};
+ghost use Prim.Native.Nat.{_≤_, _<_, _*_};
+ghost use Rattle.arithmetic.specs.Doubles.{guarded};
+ghost use Rattle.uvtheory.specs.Literals as N;
+ghost use Rattle.uvtheory.specs.Rows.{row, matrix, Row, Matrix, parameters};
+ghost use Rattle.uvtheory.specs.Wca.HardSphere as F;
+
+const PI: f64 = 3.14159265358979323846264338327950288;
+
+const WCA_CONSTANTS_Q: [[f64; 4]; 3] = [
+    [1.92840364363978, 4.43165896265079E-01, 0.0, 0.0],
+    [
+        5.20120816141761E-01,
+        1.82526759234412E-01,
+        1.10319989659929E-02,
+        -7.97813995328348E-05,
+    ],
+    [
+        0.0,
+        1.29885156087242E-02,
+        6.41039871789327E-03,
+        1.85866741090323E-05,
+    ],
+];
+
+// The place of the potential's minimum.
+pub fn rm_of(rep: f64, att: f64) -> f64
+    ensures { λ r. ⌜ r ≡ F.rm-of guarded rep att ⌝ }
+{
+    powf(div(rep, att), div(1.0, rep - att))
+}
+
+// The diameter of a component, by its reduced temperature t.
+pub fn diameter_of(t: f64, rep: f64, rm: f64, sigma: f64) -> f64
+    ensures { λ r. ⌜ r ≡ F.diameter-of guarded t rep rm sigma ⌝ }
+{
+    let c = powf(div(rep, 6.0), div(-rep, 12.0 - 2.0 * rep)) - 1.0;
+    div(1.0, powf(sqrt(t) * c + 1.0, div(2.0, rep))) * rm * sigma
+}
+
+// A coefficient by its row of WCA_CONSTANTS_Q.
+pub fn coefficient_q(c: [f64; 4], nu: f64) -> f64
+    ensures { λ r. ⌜ r ≡ F.coefficient-q guarded (row c) nu ⌝ }
+{
+    let s = nu - 7.0;
+    s * c[1] + s * s * c[2] + s * s * s * c[3] + c[0]
+}
+
+// What the power of dimensionless_diameter_q_wca is taken of.
+fn polynomial_q(t_x: f64, nu: f64, n: f64) -> f64
+    ensures { λ r. ⌜ r ≡ F.polynomial-q guarded «t_x» nu n ⌝ }
+{
+    powf(t_x, 2.0) * coefficient_q(WCA_CONSTANTS_Q[2], nu)
+        + powf(t_x, div(3.0, 2.0)) * coefficient_q(WCA_CONSTANTS_Q[1], nu)
+        + t_x * ((nu - 7.0) * WCA_CONSTANTS_Q[0][1] + WCA_CONSTANTS_Q[0][0])
+        + powf(t_x, div(1.0, 2.0)) * sqrt(div(nu * 2.0 * PI, n))
+        + 1.0
+}
+
+// By the place rs of the minimum of nu and n.
+pub fn q_of(t_x: f64, nu: f64, n: f64, rs: f64) -> f64
+    ensures { λ r. ⌜ r ≡ F.q-of guarded «t_x» nu n rs ⌝ }
+{
+    powf(polynomial_q(t_x, nu, n), -div(1.0, nu * 2.0)) * rs
+}
+
+// The place of the minimum, the diameter and the length of each component.
+pub struct Rows {
+    pub rm: [f64; 8],
+    pub d: [f64; 8],
+    pub length: [f64; 8],
+}
+
+pub fn component_lengths(m: Mixture, temperature: f64) -> Rows
+    requires { ⌜ m .n ≤ 8 ⌝ }
+    ensures { λ r. ⌜ Row (m .n) (r .rm) (λ i. F.rm-of guarded (row (m .rep) i) (row (m .att) i))
+        × Row (m .n) (r .d) (F.diameter-wca guarded (parameters guarded m) temperature)
+        × Row (m .n) (r .length) (F.dimensionless-length-scale guarded (parameters guarded m) temperature) ⌝ }
+{
+    let rep = m.rep;
+    let att = m.att;
+    let sigma = m.sigma;
+    let epsilon_k = m.epsilon_k;
+    let mut r = Rows {
+        rm: [0.0; 8],
+        d: [0.0; 8],
+        length: [0.0; 8],
+    };
+    let mut i = 0;
+    while i < m.n {
+        let rm = rm_of(rep[i], att[i]);
+        let d = diameter_of(div(temperature, epsilon_k[i]), rep[i], rm, sigma[i]);
+        r.rm[i] = rm;
+        r.d[i] = d;
+        r.length[i] = -d + rm * sigma[i];
+        i += 1;
+    }
+    r
+}
