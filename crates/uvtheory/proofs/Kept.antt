@@ -9,6 +9,7 @@ use Rattle.uvtheory.specs.Contributions.{Contributions}
 use Rattle.uvtheory.specs.Parameters.{UVTheoryPars, State, combined, new, mie-prefactor, mean-field-of, bh-coefficient, bh-coefficients}
 use Rattle.uvtheory.specs.HardSphere as S
 use Rattle.uvtheory.specs.PackingFraction as P
+use Rattle.uvtheory.specs.ReferenceEnergy as RE
 use Rattle.uvtheory.specs.OneFluid as O
 use Rattle.uvtheory.specs.Tables as T
 use Rattle.uvtheory.specs.Bh as Bh
@@ -67,9 +68,9 @@ module _ (A B : Arithmetic) (R : A .Value → B .Value → Type 0) (K : Kept A B
       wca-sphere = (Wca.residual-helmholtz-energy-contributions AB pars s .hard-sphere) .holds
 
       wca-reference : R (Wca.residual-helmholtz-energy-contributions A left sl .reference) (Wca.residual-helmholtz-energy-contributions B right sr .reference)
-      unfolding WcaR.helmholtz-energy-density WcaR.term-ij WcaR.term WcaS.diameter-wca WcaS.diameter-of WcaS.rm-of WcaS.q-of WcaS.polynomial-q WcaS.coefficient-q WcaS.dimensionless-length-scale WcaS.tau P.packing-fraction P.packing-fraction-a P.packing-fraction-b
+      unfolding WcaR.helmholtz-energy-density WcaR.term-of WcaR.term RE.energy WcaS.diameter-wca WcaS.diameter-of WcaS.rm-of WcaS.q-of WcaS.polynomial-q WcaS.coefficient-q WcaS.dimensionless-length-scale WcaS.tau P.packing-fraction P.packing-fraction-a P.packing-fraction-b
       wca-reference = (Wca.residual-helmholtz-energy-contributions AB pars s .reference) .holds
 
       b3-attractive : R (Wca.residual-helmholtz-energy-contributions-b3 A left sl .attractive) (Wca.residual-helmholtz-energy-contributions-b3 B right sr .attractive)
-      unfolding B3A.helmholtz-energy-density B3A.energy B3A.residual-third-virial-coefficient B3A.delta-b3 B3A.b30-uv B3A.ten-volumes B3A.b3-term B3A.delta-b31u B3A.residual-virial-coefficient B3A.delta-b2 B3A.sum-beta B3A.coefficient-rsap B3A.u-fraction-wca WcaA.delta-a1u-of WcaA.delta-b12u WcaA.correlation-integral-of WcaA.correlation-quotient WcaA.coefficient WcaS.diameter-wca WcaS.diameter-of WcaS.rm-of WcaS.q-of WcaS.polynomial-q WcaS.coefficient-q mie-prefactor mean-field-of O.mean-cube O.weighted-pairs O.pair-mean O.cube-root
+      unfolding B3A.helmholtz-energy-density B3A.energy B3A.residual-third-virial-coefficient B3A.delta-b3 B3A.b30-uv B3A.ten-volumes B3A.b3-term B3A.delta-b31u-of B3A.residual-virial-coefficient B3A.delta-b2-of B3A.sum-beta B3A.coefficient-rsap-of B3A.u-fraction-wca B3A.omega B3A.alpha WcaA.delta-a1u-of WcaA.delta-b12u WcaA.correlation-integral-of WcaA.correlation-quotient WcaA.coefficient WcaS.diameter-wca WcaS.diameter-of WcaS.rm-of WcaS.q-of WcaS.polynomial-q WcaS.coefficient-q mie-prefactor mean-field-of O.mean-cube O.weighted-pairs O.pair-mean O.cube-root
       b3-attractive = (Wca.residual-helmholtz-energy-contributions-b3 AB pars s .attractive) .holds

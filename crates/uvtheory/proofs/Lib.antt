@@ -1,2 +1,3 @@
 -- The laws of the formulas.
+pub mod Loops
 pub mod Kept

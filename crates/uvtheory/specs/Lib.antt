@@ -7,6 +7,7 @@ pub mod Parameters
 pub mod Contributions
 pub mod HardSphere
 pub mod PackingFraction
+pub mod ReferenceEnergy
 pub mod OneFluid
 pub mod Rows
 pub mod Bh

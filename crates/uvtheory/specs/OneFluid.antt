@@ -38,15 +38,19 @@ module _ (A : Arithmetic) where
   unfoldable pub cube-root : Value → Value
   cube-root v = powf v (constant one / constant three)
 
-  abbrev pub one-fluid-properties : UVTheoryPars Value → (ℕ → Value) → (ℕ → Value) → OneFluid Value
-  one-fluid-properties p x d =
-      let weighted-sigma3-ij = pair-mean (p .n) x (λ i j. p .sigma-ij i j ^ 3) in
-      let sigma-x = cube-root (mean-cube (p .n) x (p .sigma)) in
+  -- by the matrices, the sigma and the diameters d
+  abbrev pub one-fluid-of : ℕ → (ℕ → ℕ → Value) → (ℕ → ℕ → Value) → (ℕ → ℕ → Value) → (ℕ → ℕ → Value) → (ℕ → Value) → (ℕ → Value) → (ℕ → Value) → OneFluid Value
+  one-fluid-of n rep-ij att-ij sigma-ij eps-k-ij sigma x d =
+      let weighted-sigma3-ij = pair-mean n x (λ i j. sigma-ij i j ^ 3) in
+      let sigma-x = cube-root (mean-cube n x sigma) in
       record {
-        rep = pair-mean (p .n) x (p .rep-ij);
-        att = pair-mean (p .n) x (p .att-ij);
+        rep = pair-mean n x rep-ij;
+        att = pair-mean n x att-ij;
         sigma = sigma-x;
         weighted-sigma3-ij = weighted-sigma3-ij;
-        epsilon-k = virial-sum (p .n) x (p .sigma-ij) 3 (p .eps-k-ij) / weighted-sigma3-ij;
-        d = cube-root (mean-cube (p .n) x d) / sigma-x;
+        epsilon-k = virial-sum n x sigma-ij 3 eps-k-ij / weighted-sigma3-ij;
+        d = cube-root (mean-cube n x d) / sigma-x;
       }
+
+  abbrev pub one-fluid-properties : UVTheoryPars Value → (ℕ → Value) → (ℕ → Value) → OneFluid Value
+  one-fluid-properties p x d = one-fluid-of (p .n) (p .rep-ij) (p .att-ij) (p .sigma-ij) (p .eps-k-ij) (p .sigma) x d

@@ -1,6 +1,6 @@
 -- uvtheory/eos/wca/attractive_perturbation_uvb3.rs: the attractive perturbation of WCA-B3. `C_WCA`, `delta_b12u`, `correlation_integral_wca` and `coefficients_wca` are
 -- those of attractive_perturbation.rs, word for word; `u_fraction_wca` and `delta_b2` are its own.
-use Prim.Native.Nat.{ℕ, zero, suc, _+_ as _+ℕ_, _*_ as _×ℕ_}
+use Prim.Native.Nat.{ℕ, zero, suc}
 use lib.Ieee.{Float}
 use Rattle.arithmetic.specs.Arithmetic.{Arithmetic}
 use Rattle.arithmetic.specs.Sums.{recip}
@@ -22,26 +22,30 @@ module _ (A : Arithmetic) where
   abbrev one : Value
   one = constant N.one
 
-  -- with the low temperature correction omega; the test is strict
+  -- the low temperature correction; the test is strict, and e is the exponential of both cases
+  unfoldable pub omega : Value → Value → Value
+  omega t-x e = ifBelow t-x N.limit175 (e * (recip A (tanh (t-x * constant (CU-WCA-UVB3 7))) - one) ^ 2) (e * constant N.zero)
+
   unfoldable pub u-fraction-wca : Value → Value → Value → Value
   u-fraction-wca rep-x rho t-x =
       let c : ℕ → Value = λ i. constant (CU-WCA-UVB3 i) in
-      let e = exp (- t-x * c 5 * (rho - c 6) ^ 2) in
-      let omega = ifBelow t-x N.limit175 (e * (recip A (tanh (t-x * c 7)) - one) ^ 2) (e * constant N.zero) in
-      - exp (- (rho ^ 2 * (recip A (rep-x + c 4) * c 3 + c 2) + omega)) + one
+      - exp (- (rho ^ 2 * (recip A (rep-x + c 4) * c 3 + c 2) + omega t-x (exp (- t-x * c 5 * (rho - c 6) ^ 2)))) + one
 
-  -- a coefficient of the residual second virial coefficient (RSAP), by its row c of `C_B2_RSAP`
-  unfoldable pub coefficient-rsap : (ℕ → Float) → Value → Value
-  coefficient-rsap c rep = recip A rep * constant (c 1) + recip A (rep ^ 2) * constant (c 2) + recip A (rep ^ 3) * constant (c 3) + constant (c 0)
+  -- a coefficient of the residual second virial coefficient (RSAP), by its row c of `C_B2_RSAP` and the reciprocals of rep and its powers
+  unfoldable pub coefficient-rsap-of : (ℕ → Float) → Value → Value → Value → Value
+  coefficient-rsap-of c r1 r2 r3 = r1 * constant (c 1) + r2 * constant (c 2) + r3 * constant (c 3) + constant (c 0)
+
+  abbrev pub coefficient-rsap : (ℕ → Float) → Value → Value
+  coefficient-rsap c rep = coefficient-rsap-of c (recip A rep) (recip A (rep ^ 2)) (recip A (rep ^ 3))
 
   -- beta + beta^2 / (2! × 2) + .., of m terms after the first
   unfoldable pub sum-beta : ℕ → Value → Value
   sum-beta zero beta = beta
   sum-beta (suc m) beta = sum-beta m beta + beta ^ suc (suc m) / (constant (factorial m) * constant (whole m))
 
-  unfoldable pub delta-b2 : Value → Value → Value → Value → Value
-  delta-b2 reduced-temperature rep att q =
-      let rm = rm-of A rep att in
+  -- by the place rm of the minimum
+  unfoldable pub delta-b2-of : Value → Value → Value → Value → Value
+  delta-b2-of reduced-temperature rep q rm =
       let beta = recip A reduced-temperature in
       let b20 = q ^ 3 * constant N.two / constant N.three * constant N.PI in
       let y = exp beta - one in
@@ -50,28 +54,28 @@ module _ (A : Arithmetic) where
       - beta * coefficient-rsap (C-B2-RSAP 2) rep
       - beta ^ 2 * coefficient-rsap (C-B2-RSAP 3) rep
 
+  abbrev pub delta-b2 : Value → Value → Value → Value → Value
+  delta-b2 reduced-temperature rep att q = delta-b2-of reduced-temperature rep q (rm-of A rep att)
+
   unfoldable pub residual-virial-coefficient : UVTheoryPars Value → (ℕ → Value) → Value → Value
   residual-virial-coefficient p x t =
       virial-sum A (p .n) x (p .sigma-ij) 3 (λ i j.
       let t-ij = t / p .eps-k-ij i j in
       delta-b2 t-ij (p .rep-ij i j) (p .att-ij i j) (dimensionless-diameter-q-wca A t-ij (p .rep-ij i j) (p .att-ij i j)))
 
-  unfoldable pub delta-b31u : Value → Value → Value → Value → Value → Value → Value
-  delta-b31u t-x weighted-sigma3-ij rm-x nu att-x d-x =
+  -- by the prefactor c of nu and att
+  unfoldable pub delta-b31u-of : Value → Value → Value → Value → Value → Value → Value
+  delta-b31u-of t-x weighted-sigma3-ij rm-x nu p d-x =
       let tau = rm-x - d-x in
       let c : ℕ → Value = λ i. constant (C-WCA 0 i) in
       let k1 = recip A nu * c 1 + recip A (nu ^ 2) * c 2 + c 0 + (recip A nu * c 4 + recip A (nu ^ 2) * c 5 + c 3) * tau in
-      recip A t-x * constant N.four * mie-prefactor A nu att-x * constant N.PI * k1 * weighted-sigma3-ij ^ 2
+      recip A t-x * constant N.four * p * constant N.PI * k1 * weighted-sigma3-ij ^ 2
 
-  -- b31 to b34, by four entries K of `K_LJ_B3` and one of each other table
-  unfoldable pub b3-term : (ℕ → Float) → Float → Float → Float → Value → Value → Value
-  b3-term K M L P t-x rep-x =
+  -- b31 to b34, by four entries of `K_LJ_B3` and one of each other table
+  unfoldable pub b3-term : Float → Float → Float → Float → Float → Float → Float → Value → Value → Value
+  b3-term k0 k1 k2 k3 m l p t-x rep-x =
       let r = rep-x - constant N.twelve in
-      recip A (powf (t-x + constant (K 2)) ((r / (rep-x - constant N.six) * constant M + one) * constant (K 3)))
-      * constant (K 1) * (r / (rep-x - constant L) * constant P + one) + constant (K 0)
-
-  abbrev pub b3-term-at : ℕ → Value → Value → Value
-  b3-term-at k = b3-term (λ i. K-LJ-B3 (_+ℕ_ (_×ℕ_ 4 k) i)) (M-B3 k) (L-B3 k) (P-B3 k)
+      recip A (powf (t-x + constant k2) ((r / (rep-x - constant N.six) * constant m + one) * constant k3)) * constant k1 * (r / (rep-x - constant l) * constant p + one) + constant k0
 
   -- ten times the square of the volume of a sphere
   unfoldable pub ten-volumes : Value → Value
@@ -94,10 +98,10 @@ module _ (A : Arithmetic) where
   delta-b3 t-x rm-x rep-x d-x q-x =
       let beta = recip A t-x in
       ten-volumes q-x
-      + b3-term-at 0 t-x rep-x * beta
-      + b3-term-at 1 t-x rep-x * beta ^ 2
-      + b3-term-at 2 t-x rep-x * beta ^ 3
-      + b3-term-at 3 t-x rep-x * beta ^ 4
+      + b3-term (K-LJ-B3 0) (K-LJ-B3 1) (K-LJ-B3 2) (K-LJ-B3 3) (M-B3 0) (L-B3 0) (P-B3 0) t-x rep-x * beta
+      + b3-term (K-LJ-B3 4) (K-LJ-B3 5) (K-LJ-B3 6) (K-LJ-B3 7) (M-B3 1) (L-B3 1) (P-B3 1) t-x rep-x * beta ^ 2
+      + b3-term (K-LJ-B3 8) (K-LJ-B3 9) (K-LJ-B3 10) (K-LJ-B3 11) (M-B3 2) (L-B3 2) (P-B3 2) t-x rep-x * beta ^ 3
+      + b3-term (K-LJ-B3 12) (K-LJ-B3 13) (K-LJ-B3 14) (K-LJ-B3 15) (M-B3 3) (L-B3 3) (P-B3 3) t-x rep-x * beta ^ 4
       - b30-uv rm-x rep-x d-x q-x
 
   unfoldable pub residual-third-virial-coefficient : UVTheoryPars Value → (ℕ → Value) → Value → (ℕ → Value) → Value
@@ -107,19 +111,23 @@ module _ (A : Arithmetic) where
       delta-b3 t-ij (rm-of A (p .rep-ij i j) (p .att-ij i j)) (p .rep-ij i j) ((d i / p .sigma i + d j / p .sigma j) * constant N.half)
       (dimensionless-diameter-q-wca A t-ij (p .rep-ij i j) (p .att-ij i j)))
 
+  unfoldable pub alpha : Value → Value → Value → Value
+  alpha rho-x rep-x t-x = exp (- rho-x * recip A rep-x * constant (CU-WCA-UVB3 0) * (recip A (t-x ^ 2) * constant (CU-WCA-UVB3 1) + one))
+
   unfoldable pub energy : OneFluid Value → Value → Value → Value → Value → Value → Value
   energy o t density rho b2bar b3bar =
       let t-x = t / o .epsilon-k in
       let rm-x = rm-of A (o .rep) (o .att) in
+      let c = mie-prefactor A (o .rep) (o .att) in
       let mean-field-constant-x = mean-field-constant A (o .rep) (o .att) rm-x in
       let q-vdw = dimensionless-diameter-q-wca A t-x (o .rep) (o .att) in
+      let delta-a1u = delta-a1u-of A o t-x density mean-field-constant-x c q-vdw rm-x in
       let b21u = delta-b12u A t-x mean-field-constant-x (o .weighted-sigma3-ij) q-vdw rm-x in
-      let db31u = delta-b31u t-x (o .weighted-sigma3-ij) rm-x (o .rep) (o .att) (o .d) in
-      let rho-x = density * o .sigma ^ 3 in
-      let alpha = exp (- rho-x * recip A (o .rep) * constant (CU-WCA-UVB3 0) * (recip A (t-x ^ 2) * constant (CU-WCA-UVB3 1) + one)) in
+      let db31u = delta-b31u-of t-x (o .weighted-sigma3-ij) rm-x (o .rep) c (o .d) in
       density
-      * (delta-a1u-of A o t-x density mean-field-constant-x (mie-prefactor A (o .rep) (o .att)) q-vdw rm-x
-      + (- u-fraction-wca (o .rep) rho t-x + one) * ((b2bar - b21u) * density + density ^ 2 * alpha * (b3bar - db31u) * constant N.half))
+      * (delta-a1u
+      + (- u-fraction-wca (o .rep) rho t-x + one)
+      * ((b2bar - b21u) * density + density ^ 2 * alpha (density * o .sigma ^ 3) (o .rep) t-x * (b3bar - db31u) * constant N.half))
 
   unfoldable pub helmholtz-energy-density : UVTheoryPars Value → State Value → Value
   helmholtz-energy-density p state =

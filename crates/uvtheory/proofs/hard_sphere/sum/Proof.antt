@@ -1,0 +1,35 @@
+use Prim.Native.Nat.{ℕ, _≤_, _-_, _*_, _/_, _%_}
+use mathlib.Core.Path.{_≡_, refl, ap, _∙_}
+use native.Mathlib.Omega.{arith}
+use borrow.Author.Needs.{needs}
+use lib.ListN.{getD}
+use lib.Ieee.{Float, nan}
+use Rattle.arithmetic.specs.Arithmetic.{sumBy, powerBy}
+use Rattle.arithmetic.specs.Doubles.{guarded}
+use Rattle.uvtheory.specs.Rows.{row, matrix}
+use Rattle.uvtheory.specs.Literals as N
+use Rattle.uvtheory.proofs.Loops.{sum-step, row-of, column-of, at-pair}
+use Rattle.uvtheory.proofs.hard_sphere.sum.Statement.{statement}
+use Rattle.uvtheory.proofs.hard_sphere.sum.Tie as tie
+
+abbrev Inv-loop : tie.InvT-loop
+Inv-loop n x s₀ i₀ s i = (i ≤ n) × (s ≡ guarded .sum i (row x))
+
+abbrev μ-loop : tie.MeasureT-loop
+μ-loop n x s₀ i₀ s i = n - i
+
+loop-holds : tie.Need-loop-holds Inv-loop μ-loop
+unfolding sumBy
+loop-holds c = (omega arith, refl)
+
+loop-again : tie.Need-loop-again Inv-loop μ-loop
+unfolding powerBy
+loop-again c =
+    (omega arith,
+    rw (c .before .before .loop .inv .1, sum-step))
+
+returns : tie.Need-returns Inv-loop μ-loop
+returns c = let e : c .before .loop .i ≡ c .before .before .args .n = omega arith in c .before .loop .inv .1 ∙ ap (λ (k : ℕ). guarded .sum k (row (c .before .before .args .x .now))) e
+
+pub sum-spec : {M : Type 1} → statement M
+sum-spec = tie.close (tie.spec Inv-loop μ-loop loop-holds (λ c. search needs) (λ c. search needs) (λ c. search needs) (λ c. search needs) loop-again returns)

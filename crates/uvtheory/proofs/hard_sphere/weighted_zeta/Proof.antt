@@ -1,0 +1,40 @@
+use Prim.Native.Nat.{ℕ, _≤_, _-_, _*_, _/_, _%_}
+use mathlib.Core.Path.{_≡_, refl, ap, _∙_}
+use native.Mathlib.Omega.{arith}
+use borrow.Author.Needs.{needs}
+use lib.ListN.{getD}
+use lib.Ieee.{Float, nan}
+use Rattle.arithmetic.specs.Arithmetic.{sumBy, powerBy}
+use Rattle.arithmetic.specs.Doubles.{guarded}
+use Rattle.uvtheory.specs.Rows.{row, matrix}
+use Rattle.uvtheory.specs.Literals as N
+use Rattle.uvtheory.specs.HardSphere as F
+use Rattle.uvtheory.proofs.Loops.{sum-step, row-of, column-of, at-pair}
+use Rattle.uvtheory.proofs.hard_sphere.weighted_zeta.Statement.{statement}
+use Rattle.uvtheory.proofs.hard_sphere.weighted_zeta.Tie as tie
+
+abbrev Inv-loop : tie.InvT-loop
+Inv-loop n diameter weights z0₀ z1₀ z2₀ z3₀ i₀ z0 z1 z2 z3 i = (i ≤ n) × (z0 ≡ guarded .sum i (λ j. guarded .mul (guarded .mul (row weights j) (guarded .powi (row diameter j) 0)) N.FRAC-PI-6)) × (z1 ≡ guarded .sum i (λ j. guarded .mul (guarded .mul (row weights j) (guarded .powi (row diameter j) 1)) N.FRAC-PI-6)) × (z2 ≡ guarded .sum i (λ j. guarded .mul (guarded .mul (row weights j) (guarded .powi (row diameter j) 2)) N.FRAC-PI-6)) × (z3 ≡ guarded .sum i (λ j. guarded .mul (guarded .mul (row weights j) (guarded .powi (row diameter j) 3)) N.FRAC-PI-6))
+
+abbrev μ-loop : tie.MeasureT-loop
+μ-loop n diameter weights z0₀ z1₀ z2₀ z3₀ i₀ z0 z1 z2 z3 i = n - i
+
+loop-holds : tie.Need-loop-holds Inv-loop μ-loop
+unfolding sumBy
+loop-holds c = (omega arith, refl, refl, refl, refl)
+
+loop-again : tie.Need-loop-again Inv-loop μ-loop
+unfolding powerBy F.weighted-zeta
+loop-again c =
+    (omega arith,
+    rw (c .before .before .before .loop .inv .1, sum-step),
+    rw (c .before .before .before .loop .inv .2, sum-step),
+    rw (c .before .before .before .loop .inv .3, sum-step),
+    rw (c .before .before .before .loop .inv .4, sum-step))
+
+returns : tie.Need-returns Inv-loop μ-loop
+unfolding F.weighted-zeta
+returns c = let e : c .before .loop .i ≡ c .before .before .args .n = omega arith in (c .before .loop .inv .1 ∙ ap (λ (k : ℕ). F.weighted-zeta guarded k (row (c .before .before .args .diameter .now)) (row (c .before .before .args .weights .now)) 0) e, c .before .loop .inv .2 ∙ ap (λ (k : ℕ). F.weighted-zeta guarded k (row (c .before .before .args .diameter .now)) (row (c .before .before .args .weights .now)) 1) e, c .before .loop .inv .3 ∙ ap (λ (k : ℕ). F.weighted-zeta guarded k (row (c .before .before .args .diameter .now)) (row (c .before .before .args .weights .now)) 2) e, c .before .loop .inv .4 ∙ ap (λ (k : ℕ). F.weighted-zeta guarded k (row (c .before .before .args .diameter .now)) (row (c .before .before .args .weights .now)) 3) e)
+
+pub weighted-zeta-spec : {M : Type 1} → statement M
+weighted-zeta-spec = tie.close (tie.spec Inv-loop μ-loop loop-holds (λ c. search needs) (λ c. search needs) (λ c. search needs) (λ c. search needs) (λ c. search needs) (λ c. search needs) loop-again returns)

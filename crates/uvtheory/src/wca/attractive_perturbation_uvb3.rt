@@ -1,0 +1,232 @@
+// uvtheory/eos/wca/attractive_perturbation_uvb3.rs: the attractive perturbation of WCA-B3.
+use crate::one_fluid::OneFluid;
+use crate::parameters::{mean_field_of, mie_prefactor};
+use crate::wca::attractive_perturbation::{delta_a1u, delta_b12u};
+use crate::wca::hard_sphere::{q_of, rm_of};
+use elementary::basic::div;
+use elementary::basic::is_finite;
+use elementary::exponential::{exp, powf, tanh};
+
+ghost use mathlib.Core.Path.{_≡_};
+ghost use Prim.Native.Nat.{ℕ, _+_, _≤_, _<_, _*_};
+ghost use lib.Ieee.{Float};
+ghost use Rattle.arithmetic.specs.Doubles.{guarded};
+ghost use Rattle.uvtheory.specs.Literals as N;
+ghost use Rattle.uvtheory.specs.Rows.{row, matrix, Row, Matrix, parameters, fluid};
+ghost use Rattle.uvtheory.specs.Wca.AttractivePerturbationUvb3 as F;
+
+const PI: f64 = 3.14159265358979323846264338327950288;
+
+// The first row of C_WCA.
+const C_WCA_0: [f64; 6] = [
+    -0.2622378162,
+    0.6585817423,
+    5.5318022309,
+    0.6902354794,
+    -3.6825190645,
+    -1.7263213318,
+];
+
+// Constants for delta B2 RSAP
+const C_B2_RSAP: [[f64; 4]; 4] = [
+    [-0.063550989, 6.206829830, -37.45829549, 40.72849774],
+    [1.519053409, 13.14989643, 85.35058674, 374.1906360],
+    [0.693456220, 9.459946180, -53.28984218, 315.8199084],
+    [0.007492596, 0.546171170, 7.979562575, -119.6126395],
+];
+
+// Constants for B3 Model for Mie nu-6 fluids
+const K_LJ_B3: [f64; 16] = [
+    -3.9806, 79.565, 0.5489, 5.3632, 1.4245, 57.292, 0.0, 1.0031, -39.755, -81.213, 0.6987, 30.156,
+    -23.692, -85.006, 0.7762, 12.798,
+];
+
+const P_B3: [f64; 4] = [0.80844, -0.09541, 0.47525, -2.83283];
+
+const L_B3: [f64; 4] = [4.9485, -21.3, 7.0, 3.2162];
+
+const M_B3: [f64; 4] = [0.11853, 0.078556, -0.55039, 0.009163];
+
+const CU_WCA: [f64; 8] = [26.454, 1.8045, 1.7997, 161.96, 11.605, 12.0, 0.4, 2.0];
+
+// The first rows of WCA_CONSTANTS_ETA_A_UVB3 and WCA_CONSTANTS_ETA_B_UVB3.
+const ETA_A_0: [f64; 4] = [2.64043218, -1.2184421, -22.90786387, 0.96433414];
+
+const ETA_B_0: [f64; 2] = [2.19821588, -20.45005484];
+
+// 2! to 15!, and 2 to 15.
+const FACTORIALS: [f64; 14] = [
+    2.0,
+    6.0,
+    24.0,
+    120.0,
+    720.0,
+    5040.0,
+    40320.0,
+    362880.0,
+    3628800.0,
+    39916800.0,
+    479001600.0,
+    6227020800.0,
+    87178291200.0,
+    1307674368000.0,
+];
+
+const WHOLES: [f64; 14] = [
+    2.0,
+    3.0,
+    4.0,
+    5.0,
+    6.0,
+    7.0,
+    8.0,
+    9.0,
+    10.0,
+    11.0,
+    12.0,
+    13.0,
+    14.0,
+    15.0,
+];
+
+// The low temperature correction; e is the exponential of both its cases.
+fn omega(t_x: f64, e: f64) -> f64
+    ensures { λ r. ⌜ r ≡ F.omega guarded «t_x» e ⌝ }
+{
+    if is_finite(t_x) {
+        if t_x < 175.0 {
+            let c = div(1.0, tanh(t_x * CU_WCA[7])) - 1.0;
+            return e * (c * c);
+        }
+        return e * 0.0;
+    }
+    0.0 / 0.0
+}
+
+fn u_fraction_wca(rep_x: f64, reduced_density: f64, t_x: f64) -> f64
+    ensures { λ r. ⌜ r ≡ F.u-fraction-wca guarded «rep_x» «reduced_density» «t_x» ⌝ }
+{
+    let s = reduced_density - CU_WCA[6];
+    let omega = omega(t_x, exp(-t_x * CU_WCA[5] * (s * s)));
+    let rho2 = reduced_density * reduced_density;
+    -exp(-(rho2 * (div(1.0, rep_x + CU_WCA[4]) * CU_WCA[3] + CU_WCA[2]) + omega)) + 1.0
+}
+
+// A coefficient by its row of C_B2_RSAP, and the reciprocals of rep and its powers.
+fn coefficient_rsap(c: [f64; 4], r1: f64, r2: f64, r3: f64) -> f64
+    ensures { λ r. ⌜ r ≡ F.coefficient-rsap-of guarded (row c) r1 r2 r3 ⌝ }
+{
+    r1 * c[1] + r2 * c[2] + r3 * c[3] + c[0]
+}
+
+// Each power of beta is the one before it times beta.
+fn sum_beta(beta: f64) -> f64
+    ensures { λ r. ⌜ r ≡ F.sum-beta guarded 14 beta ⌝ }
+{
+    let mut sum = beta;
+    let mut power = beta;
+    let mut m = 0;
+    while m < 14 {
+        power = power * beta;
+        sum = sum + div(power, FACTORIALS[m] * WHOLES[m]);
+        m += 1;
+    }
+    sum
+}
+
+// By the place rm of the minimum of rep and att.
+pub fn delta_b2(reduced_temperature: f64, rep: f64, q: f64, rm: f64) -> f64
+    ensures { λ r. ⌜ r ≡ F.delta-b2-of guarded «reduced_temperature» rep q rm ⌝ }
+{
+    let beta = div(1.0, reduced_temperature);
+    let b20 = div(q * q * q * 2.0, 3.0) * PI;
+    let y = exp(beta) - 1.0;
+    let rep2 = rep * rep;
+    let r1 = div(1.0, rep);
+    let r2 = div(1.0, rep2);
+    let r3 = div(1.0, rep2 * rep);
+    (b20 - div(rm * rm * rm * 2.0, 3.0) * PI - coefficient_rsap(C_B2_RSAP[0], r1, r2, r3)) * y
+        - sum_beta(beta) * coefficient_rsap(C_B2_RSAP[1], r1, r2, r3)
+        - beta * coefficient_rsap(C_B2_RSAP[2], r1, r2, r3)
+        - beta * beta * coefficient_rsap(C_B2_RSAP[3], r1, r2, r3)
+}
+
+// By the prefactor c of nu and att.
+fn delta_b31u(t_x: f64, weighted_sigma3_ij: f64, rm_x: f64, nu: f64, c: f64, d_x: f64) -> f64
+    ensures { λ r. ⌜ r ≡ F.delta-b31u-of guarded «t_x» «weighted_sigma3_ij» «rm_x» nu c «d_x» ⌝ }
+{
+    let tau = rm_x - d_x;
+    let r1 = div(1.0, nu);
+    let r2 = div(1.0, nu * nu);
+    let k1 = r1 * C_WCA_0[1]
+        + r2 * C_WCA_0[2]
+        + C_WCA_0[0]
+        + (r1 * C_WCA_0[4] + r2 * C_WCA_0[5] + C_WCA_0[3]) * tau;
+    div(1.0, t_x) * 4.0 * c * PI * k1 * (weighted_sigma3_ij * weighted_sigma3_ij)
+}
+
+fn b3_term(k: [f64; 4], m: f64, l: f64, p: f64, t_x: f64, rep_x: f64) -> f64
+    ensures { λ r. ⌜ r ≡ F.b3-term guarded (row k 0) (row k 1) (row k 2) (row k 3) m l p «t_x» «rep_x» ⌝ }
+{
+    let r = rep_x - 12.0;
+    let e = (div(r, rep_x - 6.0) * m + 1.0) * k[3];
+    div(1.0, powf(t_x + k[2], e)) * k[1] * (div(r, rep_x - l) * p + 1.0) + k[0]
+}
+
+// Ten times the square of the volume of a sphere.
+fn ten_volumes(d: f64) -> f64
+    ensures { λ r. ⌜ r ≡ F.ten-volumes guarded d ⌝ }
+{
+    let v = div(d * d * d * PI, 6.0);
+    v * v * 10.0
+}
+
+fn b30_uv(rm_x: f64, rep_x: f64, d_x: f64, q_x: f64) -> f64
+    ensures { λ r. ⌜ r ≡ F.b30-uv guarded «rm_x» «rep_x» «d_x» «q_x» ⌝ }
+{
+    let tau = -d_x + rm_x;
+    let tau2 = tau * tau;
+    let rep_inv = div(1.0, rep_x);
+    let c1_eta_a = tau * (rep_inv * ETA_A_0[1] + ETA_A_0[0]) + tau2 * (rep_inv * ETA_A_0[3] + ETA_A_0[2]);
+    let c1_eta_b = tau * ETA_B_0[0] + tau2 * ETA_B_0[1];
+    let d3 = d_x * d_x * d_x;
+    let rm3 = rm_x * rm_x * rm_x;
+    ten_volumes(d_x)
+        - div(d3 * 5.0, 9.0) * (PI * PI)
+            * ((-(q_x * q_x * q_x) + rm3) * (c1_eta_a + 1.0) - (-d3 + rm3) * (c1_eta_b + 1.0))
+}
+
+pub fn delta_b3(t_x: f64, rm_x: f64, rep_x: f64, d_x: f64, q_x: f64) -> f64
+    ensures { λ r. ⌜ r ≡ F.delta-b3 guarded «t_x» «rm_x» «rep_x» «d_x» «q_x» ⌝ }
+{
+    let beta = div(1.0, t_x);
+    let beta2 = beta * beta;
+    let beta3 = beta2 * beta;
+    let b31 = b3_term([K_LJ_B3[0], K_LJ_B3[1], K_LJ_B3[2], K_LJ_B3[3]], M_B3[0], L_B3[0], P_B3[0], t_x, rep_x);
+    let b32 = b3_term([K_LJ_B3[4], K_LJ_B3[5], K_LJ_B3[6], K_LJ_B3[7]], M_B3[1], L_B3[1], P_B3[1], t_x, rep_x);
+    let b33 = b3_term([K_LJ_B3[8], K_LJ_B3[9], K_LJ_B3[10], K_LJ_B3[11]], M_B3[2], L_B3[2], P_B3[2], t_x, rep_x);
+    let b34 = b3_term([K_LJ_B3[12], K_LJ_B3[13], K_LJ_B3[14], K_LJ_B3[15]], M_B3[3], L_B3[3], P_B3[3], t_x, rep_x);
+    ten_volumes(q_x) + b31 * beta + b32 * beta2 + b33 * beta3 + b34 * (beta3 * beta) - b30_uv(rm_x, rep_x, d_x, q_x)
+}
+
+fn alpha(rho_x: f64, rep_x: f64, t_x: f64) -> f64
+    ensures { λ r. ⌜ r ≡ F.alpha guarded «rho_x» «rep_x» «t_x» ⌝ }
+{
+    exp(-rho_x * div(1.0, rep_x) * CU_WCA[0] * (div(1.0, t_x * t_x) * CU_WCA[1] + 1.0))
+}
+
+pub fn energy(o: OneFluid, t: f64, density: f64, rho: f64, b2bar: f64, b3bar: f64) -> f64
+    ensures { λ r. ⌜ r ≡ F.energy guarded (fluid o) t density rho b2bar b3bar ⌝ }
+{
+    let t_x = div(t, o.epsilon_k);
+    let rm_x = rm_of(o.rep, o.att);
+    let c = mie_prefactor(o.rep, o.att);
+    let mean_field_constant_x = mean_field_of(c, o.rep, o.att, rm_x);
+    let q_vdw = q_of(t_x, o.rep, o.att, rm_x);
+    let a1u = delta_a1u(o, t_x, density, mean_field_constant_x, c, q_vdw, rm_x);
+    let b21u = delta_b12u(t_x, mean_field_constant_x, o.weighted_sigma3_ij, q_vdw, rm_x);
+    let db31u = delta_b31u(t_x, o.weighted_sigma3_ij, rm_x, o.rep, c, o.d);
+    let a = alpha(density * (o.sigma * o.sigma * o.sigma), o.rep, t_x);
+    let b = (b2bar - b21u) * density + density * density * a * (b3bar - db31u) * 0.5;
+    density * (a1u + (-u_fraction_wca(o.rep, rho, t_x) + 1.0) * b)
+}
