@@ -5,4 +5,5 @@ pub mod hard_sphere;
 pub mod one_fluid;
 pub mod packing_fraction;
 pub mod parameters;
+pub mod reference_energy;
 pub mod wca;

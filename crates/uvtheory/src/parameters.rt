@@ -95,3 +95,32 @@ pub fn bh_coefficients(rep: f64, inv_a76: f64) -> [f64; 5]
         cd_bh(CD_BH[3], alpha),
     ]
 }
+
+// The combined values of a pair.
+pub struct Pair {
+    pub rep: f64,
+    pub att: f64,
+    pub sigma: f64,
+    pub epsilon_k: f64,
+}
+
+// Of i below j, by the rules.
+fn pair_of(m: Mixture, i: usize, j: usize) -> Pair
+    requires { ⌜ (i < j) × (j < m .n) × (m .n ≤ 8) ⌝ }
+    ensures { λ r. ⌜ (r .rep ≡ parameters guarded m .rep-ij i j) × (r .att ≡ parameters guarded m .att-ij i j)
+        × (r .sigma ≡ parameters guarded m .sigma-ij i j) × (r .«epsilon_k» ≡ parameters guarded m .eps-k-ij i j) ⌝ }
+{
+    let n = m.n;
+    let rep = m.rep;
+    let att = m.att;
+    let sigma = m.sigma;
+    let epsilon_k = m.epsilon_k;
+    let k_ij = m.k_ij;
+    let place = i * (2 * n - i - 1) / 2 + (j - i - 1);
+    Pair {
+        rep: sqrt(rep[i] * rep[j]),
+        att: sqrt(att[i] * att[j]),
+        sigma: 0.5 * (sigma[i] + sigma[j]),
+        epsilon_k: (1.0 - k_ij[place]) * sqrt(epsilon_k[i] * epsilon_k[j]),
+    }
+}

@@ -2,3 +2,4 @@
 pub mod attractive_perturbation;
 pub mod attractive_perturbation_uvb3;
 pub mod hard_sphere;
+pub mod reference_perturbation;

@@ -19,49 +19,57 @@ module _ (A : Arithmetic) where
   unfoldable pub delta-b12u : Value → Value → Value → Value
   delta-b12u t-x mean-field-constant-x weighted-sigma3-ij = - mean-field-constant-x / t-x * constant two * constant PI * weighted-sigma3-ij
 
-  unfoldable pub y-eff : Value → Value → Value → Value
-  y-eff reduced-temperature rep att =
-      let rc = constant five in
-      let rs = constant one in
-      let c0 = constant one - constant three * (mean-field-constant A rep att rs - mean-field-constant A rep att rc) / (rc ^ 3 - rs ^ 3) in
-      let c1 = constant (C2-BH 0 0) + constant (C2-BH 0 1) / rep in
-      let c2 = constant (C2-BH 1 0) + constant (C2-BH 1 1) / rep in
-      let c3 = constant (C2-BH 2 0) + constant (C2-BH 2 1) / rep in
-      let beta = recip A reduced-temperature in
-      let beta-eff = beta * (- recip A (beta * (beta * c2 + beta ^ 3 * c3 + c1) + constant one) * c0 + constant one) in
-      exp beta-eff - constant one
+  unfoldable pub beta-eff : Value → Value → Value → Value
+  beta-eff beta rep c0 =
+      let c : ℕ → Value = λ k. constant (C2-BH k 0) + constant (C2-BH k 1) / rep in
+      beta * (- recip A (beta * (beta * c 1 + beta ^ 3 * c 2 + c 0) + constant one) * c0 + constant one)
+
+  -- by the mean-field constants at rs = 1 and at the cutoff, a-rs and alpha
+  unfoldable pub y-eff-of : Value → Value → Value → Value → Value
+  y-eff-of beta rep a-rs alpha = exp (beta-eff beta rep (constant one - constant three * (a-rs - alpha) / (constant five ^ 3 - constant one ^ 3))) - constant one
 
   unfoldable pub delta-b2 : Value → Value → Value → Value
   delta-b2 reduced-temperature rep att =
       let rc = constant five in
-      - (y-eff reduced-temperature rep att * (rc ^ 3 - constant one) / constant three + recip A reduced-temperature * mean-field-constant A rep att rc)
-      * constant two * constant PI
+      let alpha = mean-field-constant A rep att rc in
+      let beta = recip A reduced-temperature in
+      let yeff = y-eff-of beta rep (mean-field-constant A rep att (constant one)) alpha in
+      - (yeff * (rc ^ 3 - constant one) / constant three + beta * alpha) * constant two * constant PI
 
   unfoldable pub residual-virial-coefficient : UVTheoryPars Value → (ℕ → Value) → Value → Value
   residual-virial-coefficient p x t = virial-sum A (p .n) x (p .sigma-ij) 3 (λ i j. delta-b2 (t / p .eps-k-ij i j) (p .rep-ij i j) (p .att-ij i j))
 
-  -- `coefficients_bh`: the literal 6 is the Rust's; only the last power has att
+  -- The first of `coefficients_bh`, by the power d-rep of d that two of its parts have. The literal 6 is the Rust's; only the last power has att.
+  unfoldable pub c11 : Value → Value → Value → Value
+  c11 rep d d-rep =
+      d-rep * (powf (constant one * constant two) (- rep + constant three) - powf d (rep - constant three)) / (- rep + constant three)
+      + (- d ^ 3 * constant eight + constant one) / constant twentyFour
+
+  unfoldable pub c12 : Value → Value → Value → Value
+  c12 rep d d-rep =
+      (d-rep * (powf (constant one * constant two) (- rep + constant four) - powf d (rep - constant four)) / (- rep + constant four)
+      + (- d ^ 2 * constant four + constant one) / constant eight)
+      * constant minusThreeQuarters
+
+  unfoldable pub c13 : Value → Value → Value → Value
+  c13 rep att d =
+      ((powf (d * constant two) (- rep + constant six) - constant one) / (- rep + constant six) - ln (d * constant two) * powf d (- att + constant six)) / constant sixteen
+
   unfoldable pub coefficient-1 : Value → Value → Value → Value
   coefficient-1 rep att d =
-      let c11 =
-      powf d (- rep + constant six) * (powf (constant one * constant two) (- rep + constant three) - powf d (rep - constant three)) / (- rep + constant three)
-      + (- d ^ 3 * constant eight + constant one) / constant twentyFour in
-      let c12 =
-      (powf d (- rep + constant six) * (powf (constant one * constant two) (- rep + constant four) - powf d (rep - constant four)) / (- rep + constant four)
-      + (- d ^ 2 * constant four + constant one) / constant eight)
-      * constant minusThreeQuarters in
-      let c13 =
-      ((powf (d * constant two) (- rep + constant six) - constant one) / (- rep + constant six) - ln (d * constant two) * powf d (- att + constant six)) / constant sixteen in
-      (c11 + c12 + c13) * constant FRAC-PI-3 * constant four
+      let d-rep = powf d (- rep + constant six) in
+      (c11 rep d d-rep + c12 rep d d-rep + c13 rep att d) * constant FRAC-PI-3 * constant four
 
   -- the second and the third coefficient, by their row c of `C_BH`
   unfoldable pub coefficient : (ℕ → Float) → Value → Value → Value
   coefficient c rep-inv d = rep-inv * constant (c 1) + constant (c 0) - (rep-inv * constant (c 3) + constant (c 2)) * (- d + constant one)
 
-  unfoldable pub correlation-integral-bh : Value → Value → Value → Value → Value → Value
-  correlation-integral-bh rho-x mean-field-constant-x rep-x att-x d-x =
+  -- by the prefactor c
+  unfoldable pub correlation-integral-of : Value → Value → Value → Value → Value → Value → Value
+  correlation-integral-of rho-x mean-field-constant-x c rep-x att-x d-x =
+      let rep-inv = recip A rep-x in
       - mean-field-constant-x
-      + mie-prefactor A rep-x att-x * (coefficient-1 rep-x att-x d-x * rho-x + coefficient (C-BH 0) (recip A rep-x) d-x * rho-x ^ 2) / (coefficient (C-BH 1) (recip A rep-x) d-x * rho-x + constant one) ^ 2
+      + c * (coefficient-1 rep-x att-x d-x * rho-x + coefficient (C-BH 0) rep-inv d-x * rho-x ^ 2) / (coefficient (C-BH 1) rep-inv d-x * rho-x + constant one) ^ 2
 
   unfoldable pub activation : Value → Value → Value
   activation c one-fluid-beta = one-fluid-beta * sqrt c / sqrt (one-fluid-beta ^ 2 * c + constant one)
@@ -79,7 +87,7 @@ module _ (A : Arithmetic) where
       let t-x = t / o .epsilon-k in
       let rho-x = density * o .sigma ^ 3 in
       let mean-field-constant-x = mean-field-constant A (o .rep) (o .att) (constant one) in
-      let i-bh = correlation-integral-bh rho-x mean-field-constant-x (o .rep) (o .att) (o .d) in
+      let i-bh = correlation-integral-of rho-x mean-field-constant-x (mie-prefactor A (o .rep) (o .att)) (o .rep) (o .att) (o .d) in
       let delta-a1u = density / t-x * i-bh * constant two * constant PI * o .weighted-sigma3-ij in
       let u-fraction = u-fraction-bh (o .rep) rho (recip A t-x) in
       let b21u = delta-b12u t-x mean-field-constant-x (o .weighted-sigma3-ij) in

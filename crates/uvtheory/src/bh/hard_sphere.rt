@@ -1,1 +1,50 @@
-// uvtheory/eos/bh/hard_sphere.rs
+// uvtheory/eos/bh/hard_sphere.rs: diameters by Barker-Henderson, and the tau of its packing fractions.
+use crate::parameters::{bh_coefficients, inv_a76, Mixture};
+use elementary::basic::div;
+use elementary::exponential::powf;
+use elementary::logarithm::ln;
+
+ghost use mathlib.Core.Path.{_≡_};
+ghost use Prim.Native.Nat.{ℕ, _+_, _≤_, _<_, _*_};
+ghost use lib.Ieee.{Float, nan};
+ghost use lib.ListN.{getD};
+ghost use mathlib.Core.List.{[]};
+ghost use Rattle.arithmetic.specs.Doubles.{guarded};
+ghost use Rattle.arithmetic.specs.Sums.{pairs};
+ghost use Rattle.uvtheory.specs.Literals as N;
+ghost use Rattle.uvtheory.specs.Rows.{row, Row, parameters};
+ghost use Rattle.uvtheory.specs.Bh.HardSphere as F;
+
+// Of one component, by its reduced temperature t and coefficients c.
+fn diameter_of(t: f64, c: [f64; 5], rep: f64, sigma: f64) -> f64
+    ensures { λ r. ⌜ r ≡ F.diameter-of guarded t (row c 0) (row c 1) (row c 2) (row c 3) (row c 4) rep sigma ⌝ }
+{
+    let d = powf(t, 0.25) * c[1] + powf(t, 0.75) * c[2] + powf(t, 1.25) * c[3];
+    powf(t * c[0] + d * ln(t + 1.0) + t * t * c[4] + 1.0, div(-0.5, rep)) * sigma
+}
+
+pub fn diameter_bh(m: Mixture, temperature: f64) -> [f64; 8]
+    requires { ⌜ m .n ≤ 8 ⌝ }
+    ensures { λ r. ⌜ Row (m .n) r (F.diameter-bh guarded (parameters guarded m) temperature) ⌝ }
+{
+    let n = m.n;
+    let rep = m.rep;
+    let sigma = m.sigma;
+    let epsilon_k = m.epsilon_k;
+    let a76 = inv_a76();
+    let mut d = [0.0; 8];
+    let mut i = 0;
+    while i < n {
+        let c = bh_coefficients(rep[i], a76);
+        d[i] = diameter_of(div(temperature, epsilon_k[i]), c, rep[i], sigma[i]);
+        i += 1;
+    }
+    d
+}
+
+// The dimensionless tau of a pair.
+pub fn tau(di: f64, si: f64, dj: f64, sj: f64) -> f64
+    ensures { λ r. ⌜ r ≡ F.tau guarded di si dj sj ⌝ }
+{
+    -(div(di, si) + div(dj, sj)) * 0.5 + 1.0
+}

@@ -83,23 +83,33 @@ pub fn component_lengths(m: Mixture, temperature: f64) -> Rows
         × Row (m .n) (r .d) (F.diameter-wca guarded (parameters guarded m) temperature)
         × Row (m .n) (r .length) (F.dimensionless-length-scale guarded (parameters guarded m) temperature) ⌝ }
 {
+    let n = m.n;
     let rep = m.rep;
     let att = m.att;
     let sigma = m.sigma;
     let epsilon_k = m.epsilon_k;
-    let mut r = Rows {
-        rm: [0.0; 8],
-        d: [0.0; 8],
-        length: [0.0; 8],
-    };
+    let mut rms = [0.0; 8];
+    let mut ds = [0.0; 8];
+    let mut lengths = [0.0; 8];
     let mut i = 0;
-    while i < m.n {
+    while i < n {
         let rm = rm_of(rep[i], att[i]);
         let d = diameter_of(div(temperature, epsilon_k[i]), rep[i], rm, sigma[i]);
-        r.rm[i] = rm;
-        r.d[i] = d;
-        r.length[i] = -d + rm * sigma[i];
+        rms[i] = rm;
+        ds[i] = d;
+        lengths[i] = -d + rm * sigma[i];
         i += 1;
     }
-    r
+    Rows {
+        rm: rms,
+        d: ds,
+        length: lengths,
+    }
+}
+
+// The dimensionless tau of a pair.
+pub fn tau(li: f64, lj: f64, sigma_ij: f64) -> f64
+    ensures { λ r. ⌜ r ≡ F.tau guarded li lj «sigma_ij» ⌝ }
+{
+    div(li + lj, sigma_ij) * 0.5
 }

@@ -1,0 +1,64 @@
+// uvtheory/eos/bh/reference_perturbation.rs: the reference perturbation (Mayer-f) by Barker-Henderson.
+use crate::bh::hard_sphere::tau;
+use crate::packing_fraction::{packing_fraction_a, packing_fraction_b};
+use elementary::basic::div;
+
+ghost use mathlib.Core.Path.{_≡_};
+ghost use Prim.Native.Nat.{ℕ, _+_, _≤_, _<_, _*_};
+ghost use lib.Ieee.{Float, nan};
+ghost use lib.ListN.{getD};
+ghost use mathlib.Core.List.{[]};
+ghost use Rattle.arithmetic.specs.Doubles.{guarded};
+ghost use Rattle.arithmetic.specs.Sums.{pairs};
+ghost use Rattle.uvtheory.specs.Literals as N;
+ghost use Rattle.uvtheory.specs.Rows.{row, matrix};
+ghost use Rattle.uvtheory.specs.Bh.ReferencePerturbation as F;
+
+const BH_CONSTANTS_ETA_B: [[f64; 2]; 3] = [
+    [-0.960919783, -0.921097447],
+    [-0.547468020, -3.508014069],
+    [-2.253750186, 3.581161364],
+];
+
+const BH_CONSTANTS_ETA_A: [[f64; 4]; 4] = [
+    [-1.217417282, 6.754987582, -0.5919326153, -28.99719604],
+    [1.579548775, -26.93879416, 0.3998915410, 106.9446266],
+    [-1.993990512, 44.11863355, -40.10916106, -29.6130848],
+    [0.0, 0.0, 0.0, 0.0],
+];
+
+// Of a pair of components.
+fn term(xi: f64, xj: f64, eta_a: f64, eta_b: f64, di: f64, dj: f64, sigma_ij: f64) -> f64
+    ensures { λ r. ⌜ r ≡ F.term guarded xi xj «eta_a» «eta_b» di dj «sigma_ij» ⌝ }
+{
+    let a = -eta_a + 1.0;
+    let b = -eta_b + 1.0;
+    let d_ij = (di + dj) * 0.5;
+    xi * xj * (div(-eta_a * 0.5 + 1.0, a * a * a) - div(-eta_b * 0.5 + 1.0, b * b * b))
+        * (-(d_ij * d_ij * d_ij) + sigma_ij * sigma_ij * sigma_ij)
+}
+
+fn term_of(xi: f64, xj: f64, di: f64, dj: f64, si: f64, sj: f64, sigma_ij: f64, rep_ij: f64, eta: f64) -> f64
+    ensures { λ r. ⌜ r ≡ F.term-of guarded xi xj di dj si sj «sigma_ij» «rep_ij» eta ⌝ }
+{
+    let t = tau(di, si, dj, sj);
+    let eta_a = packing_fraction_a(BH_CONSTANTS_ETA_A, eta, t, rep_ij);
+    let eta_b = packing_fraction_b(BH_CONSTANTS_ETA_B, eta, t);
+    term(xi, xj, eta_a, eta_b, di, dj, sigma_ij)
+}
+
+// The sum of the terms over all pairs.
+pub fn pair_sum(n: usize, x: &[f64; 8], d: &[f64; 8], sigma: &[f64; 8], sigma_ij: &[f64; 64], rep_ij: &[f64; 64], eta: f64) -> f64
+    requires { ⌜ n ≤ 8 ⌝ }
+    ensures { λ r. ⌜ r ≡ pairs guarded n (F.term-ij guarded (row (now (x .entry))) (row (now (d .entry))) (row (now (sigma .entry))) (matrix n (now («sigma_ij» .entry))) (matrix n (now («rep_ij» .entry))) eta) ⌝ }
+{
+    let mut sum = 0.0;
+    let mut k = 0;
+    while k < n * n {
+        let i = k / n;
+        let j = k % n;
+        sum = sum + term_of(x[i], x[j], d[i], d[j], sigma[i], sigma[j], sigma_ij[k], rep_ij[k], eta);
+        k += 1;
+    }
+    sum
+}
