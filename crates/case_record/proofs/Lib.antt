@@ -1,0 +1,7 @@
+-- Laws of the definitions, and examples.
+pub mod Digits
+pub mod Patterns
+pub mod Rows
+pub mod Writing
+pub mod Accepted
+pub mod Examples
