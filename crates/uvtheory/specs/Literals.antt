@@ -2,7 +2,7 @@
 use mathlib.Core.Path.{_≡_, refl}
 use mathlib.Core.Bool.{true, false}
 use Prim.Native.Nat.{_^_}
-use lib.Ieee.{Float, binary64, round, ofBits}
+use lib.Ieee.{Float, binary64, round, ofBits, neg}
 use Rattle.arithmetic.specs.Constants.{bits}
 
 abbrev pub zero : Float
@@ -60,13 +60,13 @@ abbrev pub twentyFour : Float
 twentyFour = bits 0x4038000000000000
 
 abbrev pub minusHalf : Float
-minusHalf = bits 0xBFE0000000000000
+minusHalf = neg half
 
 abbrev pub minusThreeQuarters : Float
-minusThreeQuarters = bits 0xBFE8000000000000
+minusThreeQuarters = neg threeQuarters
 
 abbrev pub minusTwo : Float
-minusTwo = bits 0xC000000000000000
+minusTwo = neg two
 
 -- the limit of `u_fraction_wca` in wca/attractive_perturbation_uvb3.rs
 abbrev pub limit175 : Float
@@ -118,7 +118,7 @@ literals-are : (zero ≡ round binary64 false 0 1)
     × (minusHalf ≡ round binary64 true 5 (10 ^ 1))
     × (minusThreeQuarters ≡ round binary64 true 75 (10 ^ 2))
     × (minusTwo ≡ round binary64 true 2 1)
-unfolding round ofBits
+unfolding round ofBits neg
 literals-are = (refl, refl, refl, refl, refl, refl, refl, refl, refl, refl, refl, refl, refl, refl, refl, refl, refl, refl, refl, refl, refl)
 
 exponents-are : (limit175 ≡ round binary64 false 175 1)
