@@ -1,12 +1,17 @@
 -- What a loop over components or pairs adds in one turn, and that sums agree whose terms agree.
 use Prim.Native.Nat.{ℕ, zero, suc, _+_, _*_, _/_, _%_, _<_, _≤_}
-use mathlib.Core.Path.{_≡_, refl, sym, ap, ap₂, _∙_}
-use native.Mathlib.Nat.{mul-le-mul, div-lt-iff-lt-mul, mod-lt, div-add-mod', le-refl}
+use mathlib.Core.Path.{_≡_, refl, sym, ap, ap₂, subst, _∙_}
+use mathlib.Core.Logic.{_⊎_, inl, inr}
+use mathlib.Core.List.{List}
+use lib.ListN.{length, getD, set}
+use lib.Seq.{getD-set-same, getD-set-other}
+use native.Mathlib.Nat.{mul-le-mul, div-lt-iff-lt-mul, mod-lt, div-add-mod', le-refl, lt-irrefl, eq-or-lt-of-le, le-of-suc-le-suc}
 use native.Mathlib.Numerals.{add-one}
 use native.Mathlib.Omega.{arith}
-use lib.Ieee.{Float, binary64, add}
+use lib.Ieee.{Float, nan, binary64, add}
 use Rattle.arithmetic.specs.Arithmetic.{sumBy}
 use Rattle.arithmetic.specs.Doubles.{guarded}
+use Rattle.uvtheory.specs.Rows.{Row}
 
 pub sum-step : (f : ℕ → Float) (i : ℕ) → guarded .sum (i + 1) f ≡ add binary64 (guarded .sum i f) (f i)
 unfolding sumBy
@@ -35,3 +40,11 @@ sum-ext (suc n) f g h = ap₂ (add binary64) (sum-ext n f g (λ i l. h i (omega 
 -- ---- the pairs of at most eight components
 pub square-le : (n : ℕ) → n ≤ 8 → n * n ≤ 64
 square-le n h = mul-le-mul h h
+
+-- ---- an array that is filled from its start
+pub row-set : (f : ℕ → Float) (v : Float) (i : ℕ) (xs : List Float) → i < length xs → Row i xs f → v ≡ f i → Row (i + 1) (set xs i v) f
+row-set f v i xs l h e j k = go (eq-or-lt-of-le (le-of-suc-le-suc (subst (λ (n : ℕ). j < n) (add-one i) k)))
+  where
+    go : (j ≡ i) ⊎ (j < i) → getD (set xs i v) j nan ≡ f j
+    go (inl p) = subst (λ (n : ℕ). getD (set xs i v) n nan ≡ f n) (sym p) (getD-set-same xs i v nan l ∙ e)
+    go (inr q) = getD-set-other xs i j v nan (λ p. lt-irrefl i (subst (λ (n : ℕ). n < i) p q)) ∙ h j q

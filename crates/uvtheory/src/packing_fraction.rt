@@ -8,7 +8,7 @@ ghost use mathlib.Core.Path.{_≡_};
 ghost use Prim.Native.Nat.{_≤_, _<_, _*_};
 ghost use Rattle.arithmetic.specs.Doubles.{guarded};
 ghost use Rattle.uvtheory.specs.Literals as N;
-ghost use Rattle.uvtheory.specs.Rows.{row, matrix, Row, Matrix, parameters};
+ghost use Rattle.uvtheory.specs.Rows.{row, table};
 ghost use Rattle.uvtheory.specs.PackingFraction as F;
 
 const PI: f64 = 3.14159265358979323846264338327950288;
@@ -29,7 +29,7 @@ pub fn packing_fraction(n: usize, partial_density: &[f64; 8], diameter: &[f64; 8
 }
 
 pub fn packing_fraction_b(b: [[f64; 2]; 3], eta: f64, tau: f64) -> f64
-    ensures { λ r. ⌜ r ≡ F.packing-fraction-b guarded (λ k i. getD (getD b k []) i nan) eta tau ⌝ }
+    ensures { λ r. ⌜ r ≡ F.packing-fraction-b guarded (table b) eta tau ⌝ }
 {
     let tau2 = tau * tau;
     let c0 = tau * b[0][0] + tau2 * b[0][1];
@@ -39,7 +39,7 @@ pub fn packing_fraction_b(b: [[f64; 2]; 3], eta: f64, tau: f64) -> f64
 }
 
 pub fn packing_fraction_a(a: [[f64; 4]; 4], eta: f64, tau: f64, rep_ij: f64) -> f64
-    ensures { λ r. ⌜ r ≡ F.packing-fraction-a guarded (λ k i. getD (getD a k []) i nan) eta tau «rep_ij» ⌝ }
+    ensures { λ r. ⌜ r ≡ F.packing-fraction-a guarded (table a) eta tau «rep_ij» ⌝ }
 {
     let tau2 = tau * tau;
     let rep_inv = div(1.0, rep_ij);

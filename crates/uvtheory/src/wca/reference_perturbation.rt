@@ -11,7 +11,7 @@ ghost use mathlib.Core.List.{[]};
 ghost use Rattle.arithmetic.specs.Doubles.{guarded};
 ghost use Rattle.arithmetic.specs.Sums.{pairs};
 ghost use Rattle.uvtheory.specs.Literals as N;
-ghost use Rattle.uvtheory.specs.Rows.{row, matrix};
+ghost use Rattle.uvtheory.specs.Rows.{row, table, matrix};
 ghost use Rattle.uvtheory.specs.Wca.ReferencePerturbation as F;
 
 // Of a pair of components.
@@ -36,7 +36,7 @@ pub struct Component {
 }
 
 fn term_of(ta: [[f64; 4]; 4], tb: [[f64; 2]; 3], i: Component, j: Component, q: f64, sigma_ij: f64, rep_ij: f64, eta: f64) -> f64
-    ensures { λ r. ⌜ r ≡ F.term-of guarded (λ k l. getD (getD ta k []) l nan) (λ k l. getD (getD tb k []) l nan) (i .x) (j .x) (i .rm) (j .rm) (i .d) (j .d) (i .length) (j .length) q «sigma_ij» «rep_ij» eta ⌝ }
+    ensures { λ r. ⌜ r ≡ F.term-of guarded (table ta) (table tb) (i .x) (j .x) (i .rm) (j .rm) (i .d) (j .d) (i .length) (j .length) q «sigma_ij» «rep_ij» eta ⌝ }
 {
     let t = tau(i.length, j.length, sigma_ij);
     let eta_a = packing_fraction_a(ta, eta, t, rep_ij);
@@ -47,7 +47,7 @@ fn term_of(ta: [[f64; 4]; 4], tb: [[f64; 2]; 3], i: Component, j: Component, q: 
 // The sum of the terms over all pairs.
 pub fn pair_sum(ta: [[f64; 4]; 4], tb: [[f64; 2]; 3], n: usize, x: &[f64; 8], rm: &[f64; 8], d: &[f64; 8], length: &[f64; 8], q: &[f64; 64], sigma_ij: &[f64; 64], rep_ij: &[f64; 64], eta: f64) -> f64
     requires { ⌜ n ≤ 8 ⌝ }
-    ensures { λ r. ⌜ r ≡ pairs guarded n (F.term-ij guarded (λ k l. getD (getD ta k []) l nan) (λ k l. getD (getD tb k []) l nan) (row (now (x .entry))) (row (now (rm .entry))) (row (now (d .entry))) (row (now (length .entry)))
+    ensures { λ r. ⌜ r ≡ pairs guarded n (F.term-ij guarded (table ta) (table tb) (row (now (x .entry))) (row (now (rm .entry))) (row (now (d .entry))) (row (now (length .entry)))
         (matrix n (now (q .entry))) (matrix n (now («sigma_ij» .entry))) (matrix n (now («rep_ij» .entry))) eta) ⌝ }
 {
     let mut sum = 0.0;

@@ -1,0 +1,68 @@
+-- The loop's invariant: the first i diameters stand in their places.
+use Prim.Native.Nat.{ℕ, _≤_, _-_}
+use mathlib.Core.Path.{_≡_, refl, sym, ap, _∙_, subst}
+use mathlib.Core.List.{List}
+use native.Mathlib.Omega.{arith}
+use borrow.Author.Needs.{needs}
+use lib.ListN.{length, length-set}
+use lib.Ieee.{Float}
+use Rattle.arithmetic.specs.Doubles.{guarded}
+use Rattle.uvtheory.specs.Literals as N
+use Rattle.uvtheory.specs.Rows.{row, Row}
+use Rattle.uvtheory.specs.Parameters as P
+use Rattle.uvtheory.specs.Bh.HardSphere as F
+use Rattle.uvtheory.proofs.Loops.{row-set}
+use Rattle.uvtheory.proofs.bh.hard_sphere.diameter_bh.Statement.{statement}
+use Rattle.uvtheory.proofs.bh.hard_sphere.diameter_bh.Tie as tie
+
+abbrev diameter : Float → List Float → List Float → List Float → ℕ → Float
+diameter t rep sigma epsilon-k i =
+    let c = P.bh-coefficients guarded (row rep i) N.six in
+    F.diameter-of guarded (guarded .div t (row epsilon-k i)) (c 0) (c 1) (c 2) (c 3) (c 4) (row rep i) (row sigma i)
+
+abbrev Inv-loop : tie.InvT-loop
+Inv-loop temperature n rep sigma epsilon-k a76 d₀ i₀ d i = (i ≤ n) × (length d ≡ 8) × Row i d (diameter temperature rep sigma epsilon-k)
+
+abbrev μ-loop : tie.MeasureT-loop
+μ-loop temperature n rep sigma epsilon-k a76 d₀ i₀ d i = n - i
+
+loop-holds : tie.Need-loop-holds Inv-loop μ-loop
+loop-holds c = (omega arith, refl, λ i h. absurd (omega arith))
+
+bh-coefficients-requires : tie.Need-bh-coefficients-requires Inv-loop μ-loop
+bh-coefficients-requires c κs = c .before .before .inv-a76 .ensures
+
+loop-again : tie.Need-loop-again Inv-loop μ-loop
+loop-again c =
+    let l = c .before .before .before .before .loop in
+    (omega arith, simp length-set (l .inv .1), row-set _ _ (l .i) (l .d) (omega arith) (l .inv .2) (simp (c .diameter-of .ensures, c .before .div .ensures, c .before .before .bh-coefficients .ensures)))
+
+returns : tie.Need-returns Inv-loop μ-loop
+unfolding F.diameter-bh
+returns c = λ i h. c .before .loop .inv .2 i (omega arith)
+
+pub diameter-bh-spec : {M : Type 1} → statement M
+diameter-bh-spec =
+    tie.close
+    (tie.spec
+    Inv-loop
+    μ-loop
+    (λ c κs. tt)
+    loop-holds
+    (λ c. search needs)
+    (λ c. search needs)
+    bh-coefficients-requires
+    (λ c. search needs)
+    (λ c. search needs)
+    (λ c κs. tt)
+    (λ c. search needs)
+    (λ c. search needs)
+    (λ c. search needs)
+    (λ c. search needs)
+    (λ c κs. tt)
+    (λ c. search needs)
+    (λ c. search needs)
+    (λ c. search needs)
+    (λ c. search needs)
+    loop-again
+    returns)

@@ -1,0 +1,36 @@
+use Prim.Native.Nat.{ℕ, _≤_, _<_, _-_, _*_, _/_, _%_}
+use mathlib.Core.Path.{_≡_, refl, ap, _∙_}
+use native.Mathlib.Omega.{arith}
+use borrow.Author.Needs.{needs}
+use lib.ListN.{getD}
+use lib.Ieee.{Float, nan}
+use Rattle.arithmetic.specs.Arithmetic.{sumBy, powerBy}
+use Rattle.arithmetic.specs.Doubles.{guarded}
+use Rattle.uvtheory.specs.Rows.{row, matrix, table}
+use Rattle.uvtheory.specs.Literals as N
+use Rattle.uvtheory.specs.Bh.ReferencePerturbation as F
+use Rattle.uvtheory.proofs.Loops.{sum-step, row-of, column-of, at-pair, square-le}
+use Rattle.uvtheory.proofs.bh.reference_perturbation.pair_sum.Statement.{statement}
+use Rattle.uvtheory.proofs.bh.reference_perturbation.pair_sum.Tie as tie
+
+abbrev Inv-loop : tie.InvT-loop
+Inv-loop n x d sigma sigma-ij rep-ij eta sum₀ k₀ sum k = (k ≤ n * n) × (sum ≡ guarded .sum k (λ l. F.term-ij guarded (row x) (row d) (row sigma) (matrix n sigma-ij) (matrix n rep-ij) eta (l / n) (l % n)))
+
+abbrev μ-loop : tie.MeasureT-loop
+μ-loop n x d sigma sigma-ij rep-ij eta sum₀ k₀ sum k = n * n - k
+
+loop-holds : tie.Need-loop-holds Inv-loop μ-loop
+unfolding sumBy
+loop-holds c = (omega arith, refl)
+
+loop-again : tie.Need-loop-again Inv-loop μ-loop
+unfolding powerBy
+loop-again c =
+    (omega arith,
+    rw (c .before .before .before .before .before .before .before .before .before .before .loop .inv .1, sum-step, c .term-of .ensures, at-pair))
+
+returns : tie.Need-returns Inv-loop μ-loop
+returns c = let e : c .before .loop .k ≡ c .before .before .args .n * c .before .before .args .n = omega arith in c .before .loop .inv .1 ∙ ap (λ (m : ℕ). guarded .sum m (λ l. F.term-ij guarded (row (c .before .before .args .x .now)) (row (c .before .before .args .d .now)) (row (c .before .before .args .sigma .now)) (matrix (c .before .before .args .n) (c .before .before .args .sigma-ij .now)) (matrix (c .before .before .args .n) (c .before .before .args .rep-ij .now)) (c .before .before .args .eta) (l / c .before .before .args .n) (l % c .before .before .args .n))) e
+
+pub pair-sum-spec : {M : Type 1} → statement M
+pair-sum-spec = tie.close (tie.spec Inv-loop μ-loop loop-holds (λ c. omega (arith, square-le (c .before .args .n) (c .before .pre))) (λ c. let h : c .before .loop .k < c .before .before .args .n * c .before .before .args .n = omega arith in omega (arith, square-le (c .before .before .args .n) (c .before .before .pre), row-of (c .before .before .args .n) (c .before .loop .k) h, column-of (c .before .before .args .n) (c .before .loop .k) h)) (λ c. let h : c .before .loop .k < c .before .before .args .n * c .before .before .args .n = omega arith in omega (arith, square-le (c .before .before .args .n) (c .before .before .pre), row-of (c .before .before .args .n) (c .before .loop .k) h, column-of (c .before .before .args .n) (c .before .loop .k) h)) (λ c. let h : c .before .loop .k < c .before .before .args .n * c .before .before .args .n = omega arith in omega (arith, square-le (c .before .before .args .n) (c .before .before .pre), row-of (c .before .before .args .n) (c .before .loop .k) h, column-of (c .before .before .args .n) (c .before .loop .k) h)) (λ c. let h : c .before .loop .k < c .before .before .args .n * c .before .before .args .n = omega arith in omega (arith, square-le (c .before .before .args .n) (c .before .before .pre), row-of (c .before .before .args .n) (c .before .loop .k) h, column-of (c .before .before .args .n) (c .before .loop .k) h)) (λ c. let h : c .before .before .loop .k < c .before .before .before .args .n * c .before .before .before .args .n = omega arith in omega (arith, square-le (c .before .before .before .args .n) (c .before .before .before .pre), row-of (c .before .before .before .args .n) (c .before .before .loop .k) h, column-of (c .before .before .before .args .n) (c .before .before .loop .k) h)) (λ c. let h : c .before .before .loop .k < c .before .before .before .args .n * c .before .before .before .args .n = omega arith in omega (arith, square-le (c .before .before .before .args .n) (c .before .before .before .pre), row-of (c .before .before .before .args .n) (c .before .before .loop .k) h, column-of (c .before .before .before .args .n) (c .before .before .loop .k) h)) (λ c. let h : c .before .before .before .loop .k < c .before .before .before .before .args .n * c .before .before .before .before .args .n = omega arith in omega (arith, square-le (c .before .before .before .before .args .n) (c .before .before .before .before .pre), row-of (c .before .before .before .before .args .n) (c .before .before .before .loop .k) h, column-of (c .before .before .before .before .args .n) (c .before .before .before .loop .k) h)) (λ c. let h : c .before .before .before .loop .k < c .before .before .before .before .args .n * c .before .before .before .before .args .n = omega arith in omega (arith, square-le (c .before .before .before .before .args .n) (c .before .before .before .before .pre), row-of (c .before .before .before .before .args .n) (c .before .before .before .loop .k) h, column-of (c .before .before .before .before .args .n) (c .before .before .before .loop .k) h)) (λ c. let h : c .before .before .before .before .loop .k < c .before .before .before .before .before .args .n * c .before .before .before .before .before .args .n = omega arith in omega (arith, square-le (c .before .before .before .before .before .args .n) (c .before .before .before .before .before .pre), row-of (c .before .before .before .before .before .args .n) (c .before .before .before .before .loop .k) h, column-of (c .before .before .before .before .before .args .n) (c .before .before .before .before .loop .k) h)) (λ c. let h : c .before .before .before .before .loop .k < c .before .before .before .before .before .args .n * c .before .before .before .before .before .args .n = omega arith in omega (arith, square-le (c .before .before .before .before .before .args .n) (c .before .before .before .before .before .pre), row-of (c .before .before .before .before .before .args .n) (c .before .before .before .before .loop .k) h, column-of (c .before .before .before .before .before .args .n) (c .before .before .before .before .loop .k) h)) (λ c. let h : c .before .before .before .before .before .loop .k < c .before .before .before .before .before .before .args .n * c .before .before .before .before .before .before .args .n = omega arith in omega (arith, square-le (c .before .before .before .before .before .before .args .n) (c .before .before .before .before .before .before .pre), row-of (c .before .before .before .before .before .before .args .n) (c .before .before .before .before .before .loop .k) h, column-of (c .before .before .before .before .before .before .args .n) (c .before .before .before .before .before .loop .k) h)) (λ c. let h : c .before .before .before .before .before .loop .k < c .before .before .before .before .before .before .args .n * c .before .before .before .before .before .before .args .n = omega arith in omega (arith, square-le (c .before .before .before .before .before .before .args .n) (c .before .before .before .before .before .before .pre), row-of (c .before .before .before .before .before .before .args .n) (c .before .before .before .before .before .loop .k) h, column-of (c .before .before .before .before .before .before .args .n) (c .before .before .before .before .before .loop .k) h)) (λ c. let h : c .before .before .before .before .before .before .loop .k < c .before .before .before .before .before .before .before .args .n * c .before .before .before .before .before .before .before .args .n = omega arith in omega (arith, square-le (c .before .before .before .before .before .before .before .args .n) (c .before .before .before .before .before .before .before .pre), row-of (c .before .before .before .before .before .before .before .args .n) (c .before .before .before .before .before .before .loop .k) h, column-of (c .before .before .before .before .before .before .before .args .n) (c .before .before .before .before .before .before .loop .k) h)) (λ c. let h : c .before .before .before .before .before .before .loop .k < c .before .before .before .before .before .before .before .args .n * c .before .before .before .before .before .before .before .args .n = omega arith in omega (arith, square-le (c .before .before .before .before .before .before .before .args .n) (c .before .before .before .before .before .before .before .pre), row-of (c .before .before .before .before .before .before .before .args .n) (c .before .before .before .before .before .before .loop .k) h, column-of (c .before .before .before .before .before .before .before .args .n) (c .before .before .before .before .before .before .loop .k) h)) (λ c. let h : c .before .before .before .before .before .before .before .loop .k < c .before .before .before .before .before .before .before .before .args .n * c .before .before .before .before .before .before .before .before .args .n = omega arith in omega (arith, square-le (c .before .before .before .before .before .before .before .before .args .n) (c .before .before .before .before .before .before .before .before .pre), row-of (c .before .before .before .before .before .before .before .before .args .n) (c .before .before .before .before .before .before .before .loop .k) h, column-of (c .before .before .before .before .before .before .before .before .args .n) (c .before .before .before .before .before .before .before .loop .k) h)) (λ c. let h : c .before .before .before .before .before .before .before .loop .k < c .before .before .before .before .before .before .before .before .args .n * c .before .before .before .before .before .before .before .before .args .n = omega arith in omega (arith, square-le (c .before .before .before .before .before .before .before .before .args .n) (c .before .before .before .before .before .before .before .before .pre), row-of (c .before .before .before .before .before .before .before .before .args .n) (c .before .before .before .before .before .before .before .loop .k) h, column-of (c .before .before .before .before .before .before .before .before .args .n) (c .before .before .before .before .before .before .before .loop .k) h)) (λ c. let h : c .before .before .before .before .before .before .before .before .loop .k < c .before .before .before .before .before .before .before .before .before .args .n * c .before .before .before .before .before .before .before .before .before .args .n = omega arith in omega (arith, square-le (c .before .before .before .before .before .before .before .before .before .args .n) (c .before .before .before .before .before .before .before .before .before .pre), row-of (c .before .before .before .before .before .before .before .before .before .args .n) (c .before .before .before .before .before .before .before .before .loop .k) h, column-of (c .before .before .before .before .before .before .before .before .before .args .n) (c .before .before .before .before .before .before .before .before .loop .k) h)) (λ c. let h : c .before .before .before .before .before .before .before .before .loop .k < c .before .before .before .before .before .before .before .before .before .args .n * c .before .before .before .before .before .before .before .before .before .args .n = omega arith in omega (arith, square-le (c .before .before .before .before .before .before .before .before .before .args .n) (c .before .before .before .before .before .before .before .before .before .pre), row-of (c .before .before .before .before .before .before .before .before .before .args .n) (c .before .before .before .before .before .before .before .before .loop .k) h, column-of (c .before .before .before .before .before .before .before .before .before .args .n) (c .before .before .before .before .before .before .before .before .loop .k) h)) (λ c κs. tt) (λ c. let h : c .before .before .before .before .before .before .before .before .before .before .loop .k < c .before .before .before .before .before .before .before .before .before .before .before .args .n * c .before .before .before .before .before .before .before .before .before .before .before .args .n = omega arith in omega (arith, square-le (c .before .before .before .before .before .before .before .before .before .before .before .args .n) (c .before .before .before .before .before .before .before .before .before .before .before .pre), row-of (c .before .before .before .before .before .before .before .before .before .before .before .args .n) (c .before .before .before .before .before .before .before .before .before .before .loop .k) h, column-of (c .before .before .before .before .before .before .before .before .before .before .before .args .n) (c .before .before .before .before .before .before .before .before .before .before .loop .k) h)) (λ c. search needs) loop-again returns)

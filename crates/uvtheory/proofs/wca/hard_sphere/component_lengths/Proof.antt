@@ -1,0 +1,62 @@
+-- The loop's invariant: the first i values of each row stand in their places.
+use Prim.Native.Nat.{ℕ, _≤_, _-_}
+use mathlib.Core.Path.{_≡_, refl, sym, ap, _∙_, subst}
+use mathlib.Core.List.{List}
+use native.Mathlib.Omega.{arith}
+use borrow.Author.Needs.{needs}
+use lib.ListN.{length, length-set}
+use lib.Ieee.{Float}
+use Rattle.arithmetic.specs.Doubles.{guarded}
+use Rattle.uvtheory.specs.Rows.{row, Row}
+use Rattle.uvtheory.specs.Wca.HardSphere as F
+use Rattle.uvtheory.proofs.Loops.{row-set}
+use Rattle.uvtheory.proofs.wca.hard_sphere.component_lengths.Statement.{statement}
+use Rattle.uvtheory.proofs.wca.hard_sphere.component_lengths.Tie as tie
+
+module _ (t : Float) (rep att sigma epsilon-k : List Float) where
+  abbrev minimum : ℕ → Float
+  minimum i = F.rm-of guarded (row rep i) (row att i)
+
+  abbrev diameter : ℕ → Float
+  diameter i = F.diameter-of guarded (guarded .div t (row epsilon-k i)) (row rep i) (minimum i) (row sigma i)
+
+  abbrev reach : ℕ → Float
+  reach i = guarded .add (guarded .neg (diameter i)) (guarded .mul (minimum i) (row sigma i))
+
+abbrev Inv-loop : tie.InvT-loop
+Inv-loop temperature n rep att sigma epsilon-k rms₀ ds₀ lengths₀ i₀ rms ds lengths i =
+    (i ≤ n)
+    × (length rms ≡ 8)
+    × (length ds ≡ 8)
+    × (length lengths ≡ 8)
+    × Row i rms (minimum temperature rep att sigma epsilon-k)
+    × Row i ds (diameter temperature rep att sigma epsilon-k)
+    × Row i lengths (reach temperature rep att sigma epsilon-k)
+
+abbrev μ-loop : tie.MeasureT-loop
+μ-loop temperature n rep att sigma epsilon-k rms₀ ds₀ lengths₀ i₀ rms ds lengths i = n - i
+
+loop-holds : tie.Need-loop-holds Inv-loop μ-loop
+loop-holds c = (omega arith, refl, refl, refl, (λ i h. absurd (omega arith)), (λ i h. absurd (omega arith)), λ i h. absurd (omega arith))
+
+loop-again : tie.Need-loop-again Inv-loop μ-loop
+loop-again c =
+    let l = c .before .before .before .before .loop in
+    let rm = c .before .before .rm-of .ensures in
+    let d = c .diameter-of .ensures in
+    let q = c .before .div .ensures in (
+      omega arith,
+      simp length-set (l .inv .1),
+      simp length-set (l .inv .2),
+      simp length-set (l .inv .3),
+      row-set _ _ (l .i) (l .rms) (omega arith) (l .inv .4) (simp rm),
+      row-set _ _ (l .i) (l .ds) (omega arith) (l .inv .5) (simp (d, q, rm)),
+      row-set _ _ (l .i) (l .lengths) (omega arith) (l .inv .6) (simp (d, q, rm)),
+    )
+
+returns : tie.Need-returns Inv-loop μ-loop
+unfolding F.diameter-wca F.dimensionless-length-scale
+returns c = let l = c .before .loop .inv in ((λ i h. l .4 i (omega arith)), (λ i h. l .5 i (omega arith)), λ i h. l .6 i (omega arith))
+
+pub component-lengths-spec : {M : Type 1} → statement M
+component-lengths-spec = tie.close (tie.spec Inv-loop μ-loop loop-holds (λ c. search needs) (λ c. search needs) (λ c. search needs) (λ c. search needs) (λ c κs. tt) (λ c. search needs) (λ c. search needs) (λ c κs. tt) (λ c. search needs) (λ c. search needs) (λ c. search needs) (λ c. search needs) (λ c κs. tt) (λ c. search needs) (λ c. search needs) (λ c. search needs) (λ c. search needs) (λ c. search needs) (λ c. search needs) (λ c. search needs) (λ c. search needs) (λ c. search needs) (λ c. search needs) loop-again returns)
