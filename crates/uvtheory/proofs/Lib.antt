@@ -1,3 +1,5 @@
 -- The laws of the formulas.
+pub mod Place
+pub mod Combined
 pub mod Loops
 pub mod Kept

@@ -5,7 +5,7 @@ use mathlib.Core.Logic.{_⊎_, inl, inr}
 use mathlib.Core.List.{List}
 use lib.ListN.{length, getD, set}
 use lib.Seq.{getD-set-same, getD-set-other}
-use native.Mathlib.Nat.{mul-le-mul, div-lt-iff-lt-mul, mod-lt, div-add-mod', le-refl, lt-irrefl, eq-or-lt-of-le, le-of-suc-le-suc}
+use native.Mathlib.Nat.{mul-le-mul, div-lt-iff-lt-mul, mod-lt, div-add-mod', le-refl, lt-irrefl, eq-or-lt-of-le, le-of-suc-le-suc, div-eq-of-lt-le, suc-mul, add-left-cancel, add-mul}
 use native.Mathlib.Numerals.{add-one}
 use native.Mathlib.Omega.{arith}
 use lib.Ieee.{Float, nan, binary64, add}
@@ -31,6 +31,16 @@ column-of n k h = mod-lt k (some-rows n k h)
 pub at-pair : (n k : ℕ) → k / n * n + k % n ≡ k
 at-pair n k = div-add-mod' k n
 
+pub pair-row : (n i j : ℕ) → j < n → (i * n + j) / n ≡ i
+pair-row n i j h = div-eq-of-lt-le n (let z : i * n ≤ i * n + j = omega arith in z) (let z : i * n + j < (i + 1) * n = omega (arith, add-mul i 1 n) in z)
+
+pub pair-column : (n i j : ℕ) → j < n → (i * n + j) % n ≡ j
+pair-column n i j h = let e = at-pair n (i * n + j) in let q = pair-row n i j h in add-left-cancel (i * n) (subst (λ (r : ℕ). r * n + (i * n + j) % n ≡ i * n + j) q e)
+
+-- below the diagonal the pair (j, i) stands before the pair (i, j)
+pub mirrored : (n k : ℕ) → k % n < n → k % n < k / n → k / n < n → k % n * n + k / n < k
+mirrored n k c h r = let z : suc (k % n) * n ≤ k / n * n = mul-le-mul h (le-refl n) in omega (arith, suc-mul (k % n) n, z, at-pair n k)
+
 -- ---- sums of equal terms
 pub sum-ext : (n : ℕ) (f g : ℕ → Float) → ((i : ℕ) → i < n → f i ≡ g i) → guarded .sum n f ≡ guarded .sum n g
 unfolding sumBy
@@ -41,6 +51,13 @@ sum-ext (suc n) f g h = ap₂ (add binary64) (sum-ext n f g (λ i l. h i (omega 
 pub square-le : (n : ℕ) → n ≤ 8 → n * n ≤ 64
 square-le n h = mul-le-mul h h
 
+-- all that the bounds of an access to a pair, and to its mirror image, follow from
+pub pair-within : (n k : ℕ) → n ≤ 8 → k < n * n → (n * n ≤ 64) × (k / n < n) × (k % n < n) × (k % n * n + k / n < n * n)
+pair-within n k h l =
+    let c = column-of n k l in
+    let r = row-of n k l in
+    let z : suc (k % n) * n ≤ n * n = mul-le-mul c (le-refl n) in (square-le n h, r, c, omega (arith, suc-mul (k % n) n, z))
+
 -- ---- an array that is filled from its start
 pub row-set : (f : ℕ → Float) (v : Float) (i : ℕ) (xs : List Float) → i < length xs → Row i xs f → v ≡ f i → Row (i + 1) (set xs i v) f
 row-set f v i xs l h e j k = go (eq-or-lt-of-le (le-of-suc-le-suc (subst (λ (n : ℕ). j < n) (add-one i) k)))
@@ -48,3 +65,9 @@ row-set f v i xs l h e j k = go (eq-or-lt-of-le (le-of-suc-le-suc (subst (λ (n 
     go : (j ≡ i) ⊎ (j < i) → getD (set xs i v) j nan ≡ f j
     go (inl p) = subst (λ (n : ℕ). getD (set xs i v) n nan ≡ f n) (sym p) (getD-set-same xs i v nan l ∙ e)
     go (inr q) = getD-set-other xs i j v nan (λ p. lt-irrefl i (subst (λ (n : ℕ). n < i) p q)) ∙ h j q
+
+-- what stands at (j, i), while an array is filled up to (i, j) below the diagonal
+pub mirror : (f : ℕ → ℕ → Float) (n k : ℕ) (xs : List Float) → k < n * n → k % n < k / n → Row k xs (λ k. f (k / n) (k % n)) → getD xs (k % n * n + k / n) nan ≡ f (k % n) (k / n)
+mirror f n k xs h l held =
+    let r = row-of n k h in
+    held (k % n * n + k / n) (mirrored n k (column-of n k h) l r) ∙ ap₂ f (pair-row n (k % n) (k / n) r) (pair-column n (k % n) (k / n) r)

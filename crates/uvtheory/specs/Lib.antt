@@ -10,5 +10,6 @@ pub mod PackingFraction
 pub mod ReferenceEnergy
 pub mod OneFluid
 pub mod Rows
+pub mod Held
 pub mod Bh
 pub mod Wca

@@ -11,7 +11,9 @@ ghost use lib.ListN.{getD};
 ghost use Rattle.arithmetic.specs.Doubles.{guarded};
 ghost use Rattle.uvtheory.specs.Literals as N;
 ghost use Rattle.uvtheory.specs.Parameters as F;
-ghost use Rattle.uvtheory.specs.Rows.{row, matrix, Matrix, place, parameters};
+ghost use Rattle.uvtheory.specs.Rows.{row};
+ghost use Rattle.uvtheory.specs.Rows.{place as placeOf};
+ghost use Rattle.uvtheory.specs.Held.{PairOf, CombinedOf};
 
 // A mixture of n substances, 1 to 8, as sent. Only the first n of each row count, and of k_ij the first n(n-1)/2: i below j, row by row.
 pub struct Mixture {
@@ -30,7 +32,15 @@ pub struct State {
     pub molefracs: [f64; 8],
 }
 
-// The combined values of all pairs: matrices of n rows of n values, row by row.
+// The combined values of a pair.
+pub struct Pair {
+    pub rep: f64,
+    pub att: f64,
+    pub sigma: f64,
+    pub epsilon_k: f64,
+}
+
+// Those of all pairs: matrices of n rows of n values, row by row.
 pub struct Combined {
     pub rep_ij: [f64; 64],
     pub att_ij: [f64; 64],
@@ -96,19 +106,18 @@ pub fn bh_coefficients(rep: f64, inv_a76: f64) -> [f64; 5]
     ]
 }
 
-// The combined values of a pair.
-pub struct Pair {
-    pub rep: f64,
-    pub att: f64,
-    pub sigma: f64,
-    pub epsilon_k: f64,
+// The place of k_ij.
+fn place(n: usize, i: usize, j: usize) -> usize
+    requires { ⌜ (i < j) × (j < n) × (n ≤ 8) ⌝ }
+    ensures { λ r. ⌜ (r ≡ placeOf n i j) × (r < 28) ⌝ }
+{
+    i * (2 * n - i - 1) / 2 + (j - i - 1)
 }
 
 // Of i below j, by the rules.
 fn pair_of(m: Mixture, i: usize, j: usize) -> Pair
     requires { ⌜ (i < j) × (j < m .n) × (m .n ≤ 8) ⌝ }
-    ensures { λ r. ⌜ (r .rep ≡ parameters guarded m .rep-ij i j) × (r .att ≡ parameters guarded m .att-ij i j)
-        × (r .sigma ≡ parameters guarded m .sigma-ij i j) × (r .«epsilon_k» ≡ parameters guarded m .eps-k-ij i j) ⌝ }
+    ensures { λ r. ⌜ PairOf m i j r ⌝ }
 {
     let n = m.n;
     let rep = m.rep;
@@ -116,11 +125,71 @@ fn pair_of(m: Mixture, i: usize, j: usize) -> Pair
     let sigma = m.sigma;
     let epsilon_k = m.epsilon_k;
     let k_ij = m.k_ij;
-    let place = i * (2 * n - i - 1) / 2 + (j - i - 1);
+    let k = place(n, i, j);
     Pair {
         rep: sqrt(rep[i] * rep[j]),
         att: sqrt(att[i] * att[j]),
         sigma: 0.5 * (sigma[i] + sigma[j]),
-        epsilon_k: (1.0 - k_ij[place]) * sqrt(epsilon_k[i] * epsilon_k[j]),
+        epsilon_k: (1.0 - k_ij[k]) * sqrt(epsilon_k[i] * epsilon_k[j]),
+    }
+}
+
+// Of any pair: by the rules for i below j, what was worked for (j, i), or the substance itself.
+fn pair_at(m: Mixture, i: usize, j: usize, worked: Pair) -> Pair
+    requires { ⌜ (i < m .n) × (j < m .n) × (m .n ≤ 8) ⌝ }
+    requires { ⌜ (j < i → PairOf m j i worked) ⌝ }
+    ensures { λ r. ⌜ PairOf m i j r ⌝ }
+{
+    if i < j {
+        return pair_of(m, i, j);
+    }
+    if j < i {
+        return worked;
+    }
+    let rep = m.rep;
+    let att = m.att;
+    let sigma = m.sigma;
+    let epsilon_k = m.epsilon_k;
+    Pair {
+        rep: rep[i],
+        att: att[i],
+        sigma: sigma[i],
+        epsilon_k: epsilon_k[i],
+    }
+}
+
+// UVTheoryPars::new: each pair is worked once, for i below j, and copied.
+pub fn combine(m: Mixture) -> Combined
+    requires { ⌜ m .n ≤ 8 ⌝ }
+    ensures { λ r. ⌜ CombinedOf m r ⌝ }
+{
+    let n = m.n;
+    let mut rep_ij = [0.0; 64];
+    let mut att_ij = [0.0; 64];
+    let mut sigma_ij = [0.0; 64];
+    let mut eps_k_ij = [0.0; 64];
+    let mut k = 0;
+    while k < n * n {
+        let i = k / n;
+        let j = k % n;
+        let t = j * n + i;
+        let worked = Pair {
+            rep: rep_ij[t],
+            att: att_ij[t],
+            sigma: sigma_ij[t],
+            epsilon_k: eps_k_ij[t],
+        };
+        let p = pair_at(m, i, j, worked);
+        rep_ij[k] = p.rep;
+        att_ij[k] = p.att;
+        sigma_ij[k] = p.sigma;
+        eps_k_ij[k] = p.epsilon_k;
+        k += 1;
+    }
+    Combined {
+        rep_ij,
+        att_ij,
+        sigma_ij,
+        eps_k_ij,
     }
 }

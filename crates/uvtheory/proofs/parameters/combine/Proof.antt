@@ -1,0 +1,74 @@
+-- The loop's invariant: the first k pairs of each matrix stand in their places.
+use Prim.Native.Nat.{ℕ, _≤_, _-_, _*_, _/_, _%_, _<_, _+_}
+use mathlib.Core.Path.{_≡_, refl}
+use mathlib.Core.List.{List}
+use native.Mathlib.Omega.{arith}
+use borrow.Author.Needs.{needs}
+use lib.ListN.{length, length-set, set}
+use lib.Ieee.{Float}
+use Rattle.arithmetic.specs.Doubles.{guarded}
+use Rattle.uvtheory.specs.Rows.{Row, parameters}
+use Rattle.uvtheory.proofs.Loops.{row-of, column-of, pair-within, square-le, row-set, mirror}
+use Rattle.uvtheory.proofs.parameters.combine.Statement.{statement}
+use Rattle.uvtheory.proofs.parameters.combine.Tie as tie
+
+abbrev Filled : ℕ → ℕ → List Float → (ℕ → ℕ → Float) → Type 0
+Filled n k xs f = (length xs ≡ 64) × Row k xs (λ k. f (k / n) (k % n))
+
+abbrev Inv-loop : tie.InvT-loop
+Inv-loop m n rep-ij₀ att-ij₀ sigma-ij₀ eps-k-ij₀ k₀ rep-ij att-ij sigma-ij eps-k-ij k =
+    (k ≤ m .n * m .n)
+    × Filled (m .n) k rep-ij (parameters guarded m .rep-ij)
+    × Filled (m .n) k att-ij (parameters guarded m .att-ij)
+    × Filled (m .n) k sigma-ij (parameters guarded m .sigma-ij)
+    × Filled (m .n) k eps-k-ij (parameters guarded m .eps-k-ij)
+
+abbrev μ-loop : tie.MeasureT-loop
+μ-loop m n rep-ij₀ att-ij₀ sigma-ij₀ eps-k-ij₀ k₀ rep-ij att-ij sigma-ij eps-k-ij k = m .n * m .n - k
+
+one-more : (n k : ℕ) (xs : List Float) (f : ℕ → ℕ → Float) (v : Float) → k < 64 → Filled n k xs f → v ≡ f (k / n) (k % n) → Filled n (k + 1) (set xs k v) f
+one-more n k xs f v l h e = (simp length-set (h .0), row-set _ v k xs (let z = h .0 in omega arith) (h .1) e)
+
+loop-holds : tie.Need-loop-holds Inv-loop μ-loop
+loop-holds c = (omega arith, (refl, λ i h. absurd (omega arith)), (refl, λ i h. absurd (omega arith)), (refl, λ i h. absurd (omega arith)), (refl, λ i h. absurd (omega arith)))
+
+pair-at-requires : tie.Need-pair-at-requires Inv-loop μ-loop
+pair-at-requires c κs =
+    let l = c .before .loop in
+    let n = c .before .before .args .m .n in
+    let f = parameters guarded (c .before .before .args .m) in
+    let h : l .k < n * n = omega arith in (
+      (row-of n (l .k) h, column-of n (l .k) h, c .before .before .pre),
+      λ b. record {
+        rep-is = mirror (f .rep-ij) n (l .k) (l .rep-ij) h b (l .inv .1 .1);
+        att-is = mirror (f .att-ij) n (l .k) (l .att-ij) h b (l .inv .2 .1);
+        sigma-is = mirror (f .sigma-ij) n (l .k) (l .sigma-ij) h b (l .inv .3 .1);
+        epsilon-is = mirror (f .eps-k-ij) n (l .k) (l .eps-k-ij) h b (l .inv .4 .1);
+      },
+    )
+
+loop-again : tie.Need-loop-again Inv-loop μ-loop
+loop-again c =
+    let l = c .before .before .loop in
+    let n = c .before .before .before .args .m .n in
+    let h : l .k < 64 = omega (arith, square-le n (c .before .before .before .pre)) in
+    let f = parameters guarded (c .before .before .before .args .m) in
+    let p = c .pair-at .ensures in (
+      omega arith,
+      one-more n (l .k) (l .rep-ij) (f .rep-ij) _ h (l .inv .1) (p .rep-is),
+      one-more n (l .k) (l .att-ij) (f .att-ij) _ h (l .inv .2) (p .att-is),
+      one-more n (l .k) (l .sigma-ij) (f .sigma-ij) _ h (l .inv .3) (p .sigma-is),
+      one-more n (l .k) (l .eps-k-ij) (f .eps-k-ij) _ h (l .inv .4) (p .epsilon-is),
+    )
+
+returns : tie.Need-returns Inv-loop μ-loop
+returns c =
+    let l = c .before .loop .inv in record {
+      rep-are = λ k h. l .1 .1 k (omega arith);
+      att-are = λ k h. l .2 .1 k (omega arith);
+      sigma-are = λ k h. l .3 .1 k (omega arith);
+      epsilon-are = λ k h. l .4 .1 k (omega arith);
+    }
+
+pub combine-spec : {M : Type 1} → statement M
+combine-spec = tie.close (tie.spec Inv-loop μ-loop loop-holds (λ c. omega (arith, square-le (c .before .args .m .n) (c .before .pre))) (λ c. let h : c .before .loop .k < c .before .before .args .m .n * c .before .before .args .m .n = omega arith in omega (arith, pair-within (c .before .before .args .m .n) (c .before .loop .k) (c .before .before .pre) h)) (λ c. let h : c .before .loop .k < c .before .before .args .m .n * c .before .before .args .m .n = omega arith in omega (arith, pair-within (c .before .before .args .m .n) (c .before .loop .k) (c .before .before .pre) h)) (λ c. let h : c .before .loop .k < c .before .before .args .m .n * c .before .before .args .m .n = omega arith in omega (arith, pair-within (c .before .before .args .m .n) (c .before .loop .k) (c .before .before .pre) h)) (λ c. let h : c .before .loop .k < c .before .before .args .m .n * c .before .before .args .m .n = omega arith in omega (arith, pair-within (c .before .before .args .m .n) (c .before .loop .k) (c .before .before .pre) h)) (λ c. let h : c .before .loop .k < c .before .before .args .m .n * c .before .before .args .m .n = omega arith in omega (arith, pair-within (c .before .before .args .m .n) (c .before .loop .k) (c .before .before .pre) h)) (λ c. let h : c .before .loop .k < c .before .before .args .m .n * c .before .before .args .m .n = omega arith in omega (arith, pair-within (c .before .before .args .m .n) (c .before .loop .k) (c .before .before .pre) h)) (λ c. let h : c .before .loop .k < c .before .before .args .m .n * c .before .before .args .m .n = omega arith in omega (arith, pair-within (c .before .before .args .m .n) (c .before .loop .k) (c .before .before .pre) h)) (λ c. let h : c .before .loop .k < c .before .before .args .m .n * c .before .before .args .m .n = omega arith in omega (arith, pair-within (c .before .before .args .m .n) (c .before .loop .k) (c .before .before .pre) h)) (λ c. let h : c .before .loop .k < c .before .before .args .m .n * c .before .before .args .m .n = omega arith in omega (arith, pair-within (c .before .before .args .m .n) (c .before .loop .k) (c .before .before .pre) h)) (λ c. let h : c .before .loop .k < c .before .before .args .m .n * c .before .before .args .m .n = omega arith in omega (arith, pair-within (c .before .before .args .m .n) (c .before .loop .k) (c .before .before .pre) h)) (λ c. let h : c .before .loop .k < c .before .before .args .m .n * c .before .before .args .m .n = omega arith in omega (arith, pair-within (c .before .before .args .m .n) (c .before .loop .k) (c .before .before .pre) h)) (λ c. let h : c .before .loop .k < c .before .before .args .m .n * c .before .before .args .m .n = omega arith in omega (arith, pair-within (c .before .before .args .m .n) (c .before .loop .k) (c .before .before .pre) h)) pair-at-requires (λ c. let h : c .before .before .loop .k < c .before .before .before .args .m .n * c .before .before .before .args .m .n = omega arith in omega (arith, pair-within (c .before .before .before .args .m .n) (c .before .before .loop .k) (c .before .before .before .pre) h)) (λ c. let h : c .before .before .loop .k < c .before .before .before .args .m .n * c .before .before .before .args .m .n = omega arith in omega (arith, pair-within (c .before .before .before .args .m .n) (c .before .before .loop .k) (c .before .before .before .pre) h)) (λ c. let h : c .before .before .loop .k < c .before .before .before .args .m .n * c .before .before .before .args .m .n = omega arith in omega (arith, pair-within (c .before .before .before .args .m .n) (c .before .before .loop .k) (c .before .before .before .pre) h)) (λ c. let h : c .before .before .loop .k < c .before .before .before .args .m .n * c .before .before .before .args .m .n = omega arith in omega (arith, pair-within (c .before .before .before .args .m .n) (c .before .before .loop .k) (c .before .before .before .pre) h)) (λ c. let h : c .before .before .loop .k < c .before .before .before .args .m .n * c .before .before .before .args .m .n = omega arith in omega (arith, pair-within (c .before .before .before .args .m .n) (c .before .before .loop .k) (c .before .before .before .pre) h)) (λ c. let h : c .before .before .loop .k < c .before .before .before .args .m .n * c .before .before .before .args .m .n = omega arith in omega (arith, pair-within (c .before .before .before .args .m .n) (c .before .before .loop .k) (c .before .before .before .pre) h)) (λ c. let h : c .before .before .loop .k < c .before .before .before .args .m .n * c .before .before .before .args .m .n = omega arith in omega (arith, pair-within (c .before .before .before .args .m .n) (c .before .before .loop .k) (c .before .before .before .pre) h)) (λ c. let h : c .before .before .loop .k < c .before .before .before .args .m .n * c .before .before .before .args .m .n = omega arith in omega (arith, pair-within (c .before .before .before .args .m .n) (c .before .before .loop .k) (c .before .before .before .pre) h)) (λ c. let h : c .before .before .loop .k < c .before .before .before .args .m .n * c .before .before .before .args .m .n = omega arith in omega (arith, pair-within (c .before .before .before .args .m .n) (c .before .before .loop .k) (c .before .before .before .pre) h)) (λ c. search needs) loop-again returns)
