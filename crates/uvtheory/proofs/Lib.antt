@@ -1,5 +1,6 @@
 -- The laws of the formulas.
 pub mod Place
 pub mod Combined
+pub mod Arrays
 pub mod Loops
 pub mod Kept

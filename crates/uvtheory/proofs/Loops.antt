@@ -3,7 +3,7 @@ use Prim.Native.Nat.{ℕ, zero, suc, _+_, _*_, _/_, _%_, _<_, _≤_}
 use mathlib.Core.Path.{_≡_, refl, sym, ap, ap₂, subst, _∙_}
 use mathlib.Core.Logic.{_⊎_, inl, inr}
 use mathlib.Core.List.{List}
-use lib.ListN.{length, getD, set}
+use lib.ListN.{length, length-set, getD, set}
 use lib.Seq.{getD-set-same, getD-set-other}
 use native.Mathlib.Nat.{mul-le-mul, div-lt-iff-lt-mul, mod-lt, div-add-mod', le-refl, lt-irrefl, eq-or-lt-of-le, le-of-suc-le-suc, div-eq-of-lt-le, suc-mul, add-left-cancel, add-mul}
 use native.Mathlib.Numerals.{add-one}
@@ -65,6 +65,13 @@ row-set f v i xs l h e j k = go (eq-or-lt-of-le (le-of-suc-le-suc (subst (λ (n 
     go : (j ≡ i) ⊎ (j < i) → getD (set xs i v) j nan ≡ f j
     go (inl p) = subst (λ (n : ℕ). getD (set xs i v) n nan ≡ f n) (sym p) (getD-set-same xs i v nan l ∙ e)
     go (inr q) = getD-set-other xs i j v nan (λ p. lt-irrefl i (subst (λ (n : ℕ). n < i) p q)) ∙ h j q
+
+-- the first k pairs of an array for all
+abbrev pub Filled : ℕ → ℕ → List Float → (ℕ → ℕ → Float) → Type 0
+Filled n k xs f = (length xs ≡ 64) × Row k xs (λ k. f (k / n) (k % n))
+
+pub one-more : (n k : ℕ) (xs : List Float) (f : ℕ → ℕ → Float) (v : Float) → k < 64 → Filled n k xs f → v ≡ f (k / n) (k % n) → Filled n (k + 1) (set xs k v) f
+one-more n k xs f v l h e = (simp length-set (h .0), row-set _ v k xs (let z = h .0 in omega arith) (h .1) e)
 
 -- what stands at (j, i), while an array is filled up to (i, j) below the diagonal
 pub mirror : (f : ℕ → ℕ → Float) (n k : ℕ) (xs : List Float) → k < n * n → k % n < k / n → Row k xs (λ k. f (k / n) (k % n)) → getD xs (k % n * n + k / n) nan ≡ f (k % n) (k / n)

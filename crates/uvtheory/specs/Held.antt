@@ -1,6 +1,9 @@
 -- The combined values as the code holds them, of one pair and of all, by the formulas.
-use Prim.Native.Nat.{ℕ}
+use Prim.Native.Nat.{ℕ, _+_, _*_, _/_, _%_, _<_}
 use mathlib.Core.Path.{_≡_}
+use mathlib.Core.List.{List}
+use lib.ListN.{getD}
+use lib.Ieee.{Float, nan}
 use Rattle.arithmetic.specs.Doubles.{guarded}
 use Rattle.uvtheory.specs.declared.parameters.Mixture.{Mixture}
 use Rattle.uvtheory.specs.declared.parameters.Pair.{Pair}
@@ -18,3 +21,7 @@ pub record CombinedOf (m : Mixture) (c : Combined) : Type 0 where
   pub att-are : Matrix (m .n) (c .«att_ij») (parameters guarded m .att-ij)
   pub sigma-are : Matrix (m .n) (c .«sigma_ij») (parameters guarded m .sigma-ij)
   pub epsilon-are : Matrix (m .n) (c .«eps_k_ij») (parameters guarded m .eps-k-ij)
+
+-- below the diagonal stands what stands above it
+abbrev pub Symmetric : ℕ → List Float → Type 0
+Symmetric n xs = (k : ℕ) → k < n * n → k % n < k / n → getD xs (k % n * n + k / n) nan ≡ getD xs k nan

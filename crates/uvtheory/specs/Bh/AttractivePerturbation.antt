@@ -36,8 +36,12 @@ module _ (A : Arithmetic) where
       let yeff = y-eff-of beta rep (mean-field-constant A rep att (constant one)) alpha in
       - (yeff * (rc ^ 3 - constant one) / constant three + beta * alpha) * constant two * constant PI
 
+  -- of the pair (i, j)
+  abbrev pub delta-b2-ij : UVTheoryPars Value → Value → ℕ → ℕ → Value
+  delta-b2-ij p t i j = delta-b2 (t / p .eps-k-ij i j) (p .rep-ij i j) (p .att-ij i j)
+
   unfoldable pub residual-virial-coefficient : UVTheoryPars Value → (ℕ → Value) → Value → Value
-  residual-virial-coefficient p x t = virial-sum A (p .n) x (p .sigma-ij) 3 (λ i j. delta-b2 (t / p .eps-k-ij i j) (p .rep-ij i j) (p .att-ij i j))
+  residual-virial-coefficient p x t = virial-sum A (p .n) x (p .sigma-ij) 3 (delta-b2-ij p t)
 
   -- The first of `coefficients_bh`, by the power d-rep of d that two of its parts have. The literal 6 is the Rust's; only the last power has att.
   unfoldable pub c11 : Value → Value → Value → Value

@@ -1,6 +1,6 @@
 // uvtheory/eos/bh/attractive_perturbation.rs: the attractive perturbation by Barker-Henderson.
-use crate::one_fluid::OneFluid;
-use crate::parameters::{mean_field_of, mie_prefactor};
+use crate::one_fluid::{mean_cube, one_fluid_properties, virial_sum, OneFluid};
+use crate::parameters::{mean_field_of, mie_prefactor, Combined, Mixture, State};
 use elementary::basic::div;
 use elementary::exponential::{exp, powf, tanh};
 use elementary::logarithm::ln;
@@ -14,7 +14,9 @@ ghost use mathlib.Core.List.{[]};
 ghost use Rattle.arithmetic.specs.Doubles.{guarded};
 ghost use Rattle.arithmetic.specs.Sums.{pairs};
 ghost use Rattle.uvtheory.specs.Literals as N;
-ghost use Rattle.uvtheory.specs.Rows.{row, fluid};
+ghost use Rattle.uvtheory.specs.Rows.{row, matrix, fluid, Row, Matrix, parameters, state};
+ghost use Rattle.uvtheory.specs.Held.{CombinedOf, Symmetric};
+ghost use Rattle.uvtheory.specs.Bh.HardSphere.{diameter-bh};
 ghost use Rattle.uvtheory.specs.Bh.AttractivePerturbation as F;
 
 const PI: f64 = 3.14159265358979323846264338327950288;
@@ -160,4 +162,51 @@ pub fn energy(o: OneFluid, t: f64, density: f64, rho: f64, b2bar: f64) -> f64
     let u_fraction = u_fraction_bh(o.rep, rho, div(1.0, t_x));
     let b21u = delta_b12u(t_x, mean_field_constant_x, o.weighted_sigma3_ij);
     density * (delta_a1u + (-u_fraction + 1.0) * (b2bar - b21u) * density)
+}
+
+// Of the pair (i, j), or what was worked for (j, i).
+fn delta_b2_at(i: usize, j: usize, t: f64, eps_k: f64, rep: f64, att: f64, worked: f64) -> f64
+    requires { ⌜ (j < i → worked ≡ F.delta-b2 guarded (guarded .div t «eps_k») rep att) ⌝ }
+    ensures { λ r. ⌜ r ≡ F.delta-b2 guarded (guarded .div t «eps_k») rep att ⌝ }
+{
+    if j < i {
+        return worked;
+    }
+    delta_b2(div(t, eps_k), rep, att)
+}
+
+// Of all pairs: each is worked once, for i up to j, and copied.
+fn delta_b2_ij(n: usize, c: Combined, t: f64) -> [f64; 64]
+    requires { ⌜ (n ≤ 8) × Symmetric n (c .«rep_ij») × Symmetric n (c .«att_ij») × Symmetric n (c .«eps_k_ij») ⌝ }
+    ensures { λ r. ⌜ Matrix n r (λ i j. F.delta-b2 guarded (guarded .div t (matrix n (c .«eps_k_ij») i j)) (matrix n (c .«rep_ij») i j) (matrix n (c .«att_ij») i j)) ⌝ }
+{
+    let rep_ij = c.rep_ij;
+    let att_ij = c.att_ij;
+    let eps_k_ij = c.eps_k_ij;
+    let mut b2 = [0.0; 64];
+    let mut k = 0;
+    while k < n * n {
+        let i = k / n;
+        let j = k % n;
+        b2[k] = delta_b2_at(i, j, t, eps_k_ij[k], rep_ij[k], att_ij[k], b2[j * n + i]);
+        k += 1;
+    }
+    b2
+}
+
+// By the combined values c, the diameters d and the density.
+pub fn helmholtz_energy_density(m: Mixture, s: State, c: Combined, d: &[f64; 8], density: f64) -> f64
+    requires { ⌜ (m .n ≤ 8) × CombinedOf m c × Row (m .n) (now d) (diameter-bh guarded (parameters guarded m) (s .temperature)) ⌝ }
+    requires { ⌜ density ≡ guarded .sum (m .n) (row (s .«partial_density»)) ⌝ }
+    ensures { λ r. ⌜ r ≡ F.helmholtz-energy-density guarded (parameters guarded m) (state guarded s) ⌝ }
+{
+    let n = m.n;
+    let t = s.temperature;
+    let x = s.molefracs;
+    let sigma = m.sigma;
+    let sigma_ij = c.sigma_ij;
+    let o = one_fluid_properties(n, c, &sigma, &x, d);
+    let b2 = delta_b2_ij(n, c, t);
+    let b2bar = virial_sum(n, &x, &sigma_ij, &b2);
+    energy(o, t, density, density * mean_cube(n, &x, &sigma), b2bar)
 }

@@ -1,19 +1,13 @@
 -- The loop's invariant: the first k pairs of each matrix stand in their places.
-use Prim.Native.Nat.{ℕ, _≤_, _-_, _*_, _/_, _%_, _<_, _+_}
+use Prim.Native.Nat.{_≤_, _-_, _*_, _<_}
 use mathlib.Core.Path.{_≡_, refl}
-use mathlib.Core.List.{List}
 use native.Mathlib.Omega.{arith}
 use borrow.Author.Needs.{needs}
-use lib.ListN.{length, length-set, set}
-use lib.Ieee.{Float}
 use Rattle.arithmetic.specs.Doubles.{guarded}
-use Rattle.uvtheory.specs.Rows.{Row, parameters}
-use Rattle.uvtheory.proofs.Loops.{row-of, column-of, pair-within, square-le, row-set, mirror}
+use Rattle.uvtheory.specs.Rows.{parameters}
+use Rattle.uvtheory.proofs.Loops.{row-of, column-of, pair-within, square-le, Filled, one-more, mirror}
 use Rattle.uvtheory.proofs.parameters.combine.Statement.{statement}
 use Rattle.uvtheory.proofs.parameters.combine.Tie as tie
-
-abbrev Filled : ℕ → ℕ → List Float → (ℕ → ℕ → Float) → Type 0
-Filled n k xs f = (length xs ≡ 64) × Row k xs (λ k. f (k / n) (k % n))
 
 abbrev Inv-loop : tie.InvT-loop
 Inv-loop m n rep-ij₀ att-ij₀ sigma-ij₀ eps-k-ij₀ k₀ rep-ij att-ij sigma-ij eps-k-ij k =
@@ -25,9 +19,6 @@ Inv-loop m n rep-ij₀ att-ij₀ sigma-ij₀ eps-k-ij₀ k₀ rep-ij att-ij sigm
 
 abbrev μ-loop : tie.MeasureT-loop
 μ-loop m n rep-ij₀ att-ij₀ sigma-ij₀ eps-k-ij₀ k₀ rep-ij att-ij sigma-ij eps-k-ij k = m .n * m .n - k
-
-one-more : (n k : ℕ) (xs : List Float) (f : ℕ → ℕ → Float) (v : Float) → k < 64 → Filled n k xs f → v ≡ f (k / n) (k % n) → Filled n (k + 1) (set xs k v) f
-one-more n k xs f v l h e = (simp length-set (h .0), row-set _ v k xs (let z = h .0 in omega arith) (h .1) e)
 
 loop-holds : tie.Need-loop-holds Inv-loop μ-loop
 loop-holds c = (omega arith, (refl, λ i h. absurd (omega arith)), (refl, λ i h. absurd (omega arith)), (refl, λ i h. absurd (omega arith)), (refl, λ i h. absurd (omega arith)))
