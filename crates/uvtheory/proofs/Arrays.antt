@@ -7,8 +7,9 @@ use lib.Ieee.{Float, nan, binary64, mul}
 use Rattle.arithmetic.specs.Arithmetic.{powerBy}
 use Rattle.arithmetic.specs.Doubles.{guarded}
 use Rattle.uvtheory.specs.declared.parameters.Mixture.{Mixture}
+use Rattle.uvtheory.specs.declared.parameters.State.{State}
 use Rattle.uvtheory.specs.declared.parameters.Combined.{Combined}
-use Rattle.uvtheory.specs.Rows.{row, matrix, Row, Matrix, parameters}
+use Rattle.uvtheory.specs.Rows.{row, matrix, Row, Matrix, parameters, state}
 use Rattle.uvtheory.specs.Held.{CombinedOf}
 use Rattle.uvtheory.specs.OneFluid as O
 use Rattle.uvtheory.specs.HardSphere as S
@@ -31,6 +32,10 @@ module _ (n : ℕ) (w : ℕ → Float) (xs : List Float) (f : ℕ → Float) (h 
   pub packing-fraction-of : P.packing-fraction guarded n w (row xs) ≡ P.packing-fraction guarded n w f
   unfolding P.packing-fraction
   packing-fraction-of = sum-ext n _ _ (λ i l. rw (h i l))
+
+pub hard-sphere-of : (n : ℕ) (s : State) (xs : List Float) (f : ℕ → Float) → Row n xs f → S.helmholtz-energy-density guarded n (row xs) (state guarded s) ≡ S.helmholtz-energy-density guarded n f (state guarded s)
+unfolding S.helmholtz-energy-density
+hard-sphere-of n s xs f h = let z = weighted-zeta-of n (row (s .molefracs)) xs f h in rw (z 0, z 1, z 2, z 3)
 
 -- ---- over the pairs
 module _ (n : ℕ) (x : ℕ → Float) where

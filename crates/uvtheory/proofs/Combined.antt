@@ -41,7 +41,7 @@ pub pair-itself : {m : Mixture} {p : Pair} (i j : ℕ) → i ≡ j → p .rep �
 pair-itself {m} {p} i j e r a s k = subst (λ (x : ℕ). PairOf m i x p) e record { rep-is = rw (itself _ _ i, r); att-is = rw (itself _ _ i, a); sigma-is = rw (itself _ _ i, s); epsilon-is = rw (itself _ _ i, k) }
 
 -- ---- the arrays of the combined values are symmetric
-symmetric : (n : ℕ) (xs : List Float) (f : ℕ → ℕ → Float) → ((i j : ℕ) → j < i → f i j ≡ f j i) → Matrix n xs f → Symmetric n xs
+pub symmetric : (n : ℕ) (xs : List Float) (f : ℕ → ℕ → Float) → ((i j : ℕ) → j < i → f i j ≡ f j i) → Matrix n xs f → Symmetric n xs
 symmetric n xs f e h k l b = mirror f n k xs l b (λ i z. h i (lt-trans z l)) ∙ sym (h k l ∙ e (k / n) (k % n) b)
 
 module _ {m : Mixture} {c : Combined} (h : CombinedOf m c) where

@@ -1,4 +1,4 @@
--- The combined values as the code holds them, of one pair and of all, by the formulas.
+-- What the code holds, by the formulas: the combined values of one pair and of all, and the three energies.
 use Prim.Native.Nat.{ℕ, _+_, _*_, _/_, _%_, _<_}
 use mathlib.Core.Path.{_≡_}
 use mathlib.Core.List.{List}
@@ -8,6 +8,8 @@ use Rattle.arithmetic.specs.Doubles.{guarded}
 use Rattle.uvtheory.specs.declared.parameters.Mixture.{Mixture}
 use Rattle.uvtheory.specs.declared.parameters.Pair.{Pair}
 use Rattle.uvtheory.specs.declared.parameters.Combined.{Combined}
+use Rattle.uvtheory.specs.declared.contributions.Contributions.{Contributions as Held}
+use Rattle.uvtheory.specs.Contributions.{Contributions}
 use Rattle.uvtheory.specs.Rows.{Matrix, parameters}
 
 pub record PairOf (m : Mixture) (i j : ℕ) (p : Pair) : Type 0 where
@@ -25,3 +27,9 @@ pub record CombinedOf (m : Mixture) (c : Combined) : Type 0 where
 -- below the diagonal stands what stands above it
 abbrev pub Symmetric : ℕ → List Float → Type 0
 Symmetric n xs = (k : ℕ) → k < n * n → k % n < k / n → getD xs (k % n * n + k / n) nan ≡ getD xs k nan
+
+-- the three energies, as the code holds them
+pub record ContributionsOf (held : Held) (c : Contributions Float) : Type 0 where
+  pub hard-sphere-is : held .«hard_sphere» ≡ c .hard-sphere
+  pub reference-is : held .reference ≡ c .reference
+  pub attractive-is : held .attractive ≡ c .attractive

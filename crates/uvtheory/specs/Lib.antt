@@ -13,3 +13,5 @@ pub mod Rows
 pub mod Held
 pub mod Bh
 pub mod Wca
+pub mod Lengths
+pub mod Eos

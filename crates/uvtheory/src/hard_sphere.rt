@@ -7,7 +7,7 @@ ghost use mathlib.Core.Path.{_≡_};
 ghost use Prim.Native.Nat.{_≤_, _<_, _*_};
 ghost use Rattle.arithmetic.specs.Doubles.{guarded};
 ghost use Rattle.uvtheory.specs.Literals as N;
-ghost use Rattle.uvtheory.specs.Rows.{row, matrix, Row, Matrix, parameters};
+ghost use Rattle.uvtheory.specs.Rows.{row, state};
 ghost use Rattle.uvtheory.specs.HardSphere as F;
 
 const FRAC_PI_6: f64 = 0.52359877559829887307710723054658381;
@@ -72,4 +72,13 @@ pub fn bmcsl(z: Zeta, density: f64) -> f64
         + zeta2 * zeta2 * (frac_1mz3 * frac_1mz3) * zeta_23
         + (zeta2 * (zeta_23 * zeta_23) - zeta0) * ln_1p(-zeta3);
     div(a, FRAC_PI_6)
+}
+
+// By the diameters and the density.
+pub fn helmholtz_energy_density(n: usize, diameter: &[f64; 8], s: State, density: f64) -> f64
+    requires { ⌜ (n ≤ 8) × (density ≡ guarded .sum n (row (s .«partial_density»))) ⌝ }
+    ensures { λ r. ⌜ r ≡ F.helmholtz-energy-density guarded n (row (now (diameter .entry))) (state guarded s) ⌝ }
+{
+    let x = s.molefracs;
+    bmcsl(weighted_zeta(n, diameter, &x), density)
 }

@@ -1,6 +1,7 @@
 // The uv-theory energies of feos on f64, in the modules and names of the Rust: crates/feos/src/uvtheory and crates/feos/src/hard_sphere.
 pub mod bh;
 pub mod contributions;
+pub mod eos;
 pub mod hard_sphere;
 pub mod one_fluid;
 pub mod packing_fraction;

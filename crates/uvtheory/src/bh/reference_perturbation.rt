@@ -1,6 +1,8 @@
 // uvtheory/eos/bh/reference_perturbation.rs: the reference perturbation (Mayer-f) by Barker-Henderson.
 use crate::bh::hard_sphere::tau;
-use crate::packing_fraction::{packing_fraction_a, packing_fraction_b};
+use crate::packing_fraction::{packing_fraction, packing_fraction_a, packing_fraction_b};
+use crate::parameters::{Combined, Mixture, State};
+use crate::reference_energy::energy;
 use elementary::basic::div;
 
 ghost use mathlib.Core.Path.{_≡_};
@@ -11,7 +13,9 @@ ghost use mathlib.Core.List.{[]};
 ghost use Rattle.arithmetic.specs.Doubles.{guarded};
 ghost use Rattle.arithmetic.specs.Sums.{pairs};
 ghost use Rattle.uvtheory.specs.Literals as N;
-ghost use Rattle.uvtheory.specs.Rows.{row, matrix};
+ghost use Rattle.uvtheory.specs.Rows.{row, matrix, Row, parameters, state};
+ghost use Rattle.uvtheory.specs.Held.{CombinedOf};
+ghost use Rattle.uvtheory.specs.Bh.HardSphere.{diameter-bh};
 ghost use Rattle.uvtheory.specs.Bh.ReferencePerturbation as F;
 
 const BH_CONSTANTS_ETA_B: [[f64; 2]; 3] = [
@@ -61,4 +65,20 @@ pub fn pair_sum(n: usize, x: &[f64; 8], d: &[f64; 8], sigma: &[f64; 8], sigma_ij
         k += 1;
     }
     sum
+}
+
+// By the combined values c, the diameters d and the density.
+pub fn helmholtz_energy_density(m: Mixture, s: State, c: Combined, d: &[f64; 8], density: f64) -> f64
+    requires { ⌜ (m .n ≤ 8) × CombinedOf m c × Row (m .n) (now d) (diameter-bh guarded (parameters guarded m) (s .temperature)) ⌝ }
+    requires { ⌜ density ≡ guarded .sum (m .n) (row (s .«partial_density»)) ⌝ }
+    ensures { λ r. ⌜ r ≡ F.helmholtz-energy-density guarded (parameters guarded m) (state guarded s) ⌝ }
+{
+    let n = m.n;
+    let x = s.molefracs;
+    let partial_density = s.partial_density;
+    let sigma = m.sigma;
+    let sigma_ij = c.sigma_ij;
+    let rep_ij = c.rep_ij;
+    let eta = packing_fraction(n, &partial_density, d);
+    energy(pair_sum(n, &x, d, &sigma, &sigma_ij, &rep_ij, eta), density)
 }

@@ -1,8 +1,8 @@
 // uvtheory/eos/wca/attractive_perturbation_uvb3.rs: the attractive perturbation of WCA-B3.
-use crate::one_fluid::OneFluid;
-use crate::parameters::{mean_field_of, mie_prefactor};
+use crate::one_fluid::{mean_cube, one_fluid_properties, third_virial_sum, virial_sum, OneFluid};
+use crate::parameters::{mean_field_of, mie_prefactor, Combined, Mixture, State};
 use crate::wca::attractive_perturbation::{delta_a1u, delta_b12u};
-use crate::wca::hard_sphere::{q_of, rm_of};
+use crate::wca::hard_sphere::{q_of, rm_of, LengthTables};
 use elementary::basic::div;
 use elementary::basic::is_finite;
 use elementary::exponential::{exp, powf, tanh};
@@ -12,7 +12,10 @@ ghost use Prim.Native.Nat.{ℕ, _+_, _≤_, _<_, _*_};
 ghost use lib.Ieee.{Float};
 ghost use Rattle.arithmetic.specs.Doubles.{guarded};
 ghost use Rattle.uvtheory.specs.Literals as N;
-ghost use Rattle.uvtheory.specs.Rows.{row, matrix, Row, Matrix, parameters, fluid};
+ghost use Rattle.uvtheory.specs.Rows.{row, matrix, fluid, Row, Matrix, parameters, state};
+ghost use Rattle.uvtheory.specs.Held.{CombinedOf, Symmetric};
+ghost use Rattle.uvtheory.specs.Lengths.{LengthsOf};
+ghost use Rattle.uvtheory.specs.Wca.HardSphere.{diameter-wca};
 ghost use Rattle.uvtheory.specs.Wca.AttractivePerturbationUvb3 as F;
 
 const PI: f64 = 3.14159265358979323846264338327950288;
@@ -229,4 +232,81 @@ pub fn energy(o: OneFluid, t: f64, density: f64, rho: f64, b2bar: f64, b3bar: f6
     let a = alpha(density * (o.sigma * o.sigma * o.sigma), o.rep, t_x);
     let b = (b2bar - b21u) * density + density * density * a * (b3bar - db31u) * 0.5;
     density * (a1u + (-u_fraction_wca(o.rep, rho, t_x) + 1.0) * b)
+}
+
+// Of the pair (i, j), or what was worked for (j, i).
+fn delta_b2_at(i: usize, j: usize, t: f64, eps_k: f64, rep: f64, q: f64, rm: f64, worked: f64) -> f64
+    requires { ⌜ (j < i → worked ≡ F.delta-b2-of guarded (guarded .div t «eps_k») rep q rm) ⌝ }
+    ensures { λ r. ⌜ r ≡ F.delta-b2-of guarded (guarded .div t «eps_k») rep q rm ⌝ }
+{
+    if j < i {
+        return worked;
+    }
+    delta_b2(div(t, eps_k), rep, q, rm)
+}
+
+// Of all pairs: each is worked once, for i up to j, and copied.
+fn delta_b2_ij(n: usize, c: Combined, t: f64, l: LengthTables) -> [f64; 64]
+    requires { ⌜ (n ≤ 8) × Symmetric n (c .«rep_ij») × Symmetric n (c .«eps_k_ij») × Symmetric n (l .q) × Symmetric n (l .rm) ⌝ }
+    ensures { λ r. ⌜ Matrix n r (λ i j. F.delta-b2-of guarded (guarded .div t (matrix n (c .«eps_k_ij») i j)) (matrix n (c .«rep_ij») i j) (matrix n (l .q) i j) (matrix n (l .rm) i j)) ⌝ }
+{
+    let rep_ij = c.rep_ij;
+    let eps_k_ij = c.eps_k_ij;
+    let q = l.q;
+    let rm = l.rm;
+    let mut b2 = [0.0; 64];
+    let mut k = 0;
+    while k < n * n {
+        let i = k / n;
+        let j = k % n;
+        b2[k] = delta_b2_at(i, j, t, eps_k_ij[k], rep_ij[k], q[k], rm[k], b2[j * n + i]);
+        k += 1;
+    }
+    b2
+}
+
+// Of the pair of components with diameters di and dj.
+fn delta_b3_at(t: f64, eps_k: f64, rm: f64, rep: f64, q: f64, di: f64, si: f64, dj: f64, sj: f64) -> f64
+    ensures { λ r. ⌜ r ≡ F.delta-b3 guarded (guarded .div t «eps_k») rm rep (guarded .mul (guarded .add (guarded .div di si) (guarded .div dj sj)) N.half) q ⌝ }
+{
+    delta_b3(div(t, eps_k), rm, rep, (div(di, si) + div(dj, sj)) * 0.5, q)
+}
+
+fn delta_b3_ij(n: usize, c: Combined, t: f64, l: LengthTables, d: &[f64; 8], sigma: &[f64; 8]) -> [f64; 64]
+    requires { ⌜ n ≤ 8 ⌝ }
+    ensures { λ r. ⌜ Matrix n r (λ i j. F.delta-b3 guarded (guarded .div t (matrix n (c .«eps_k_ij») i j)) (matrix n (l .rm) i j) (matrix n (c .«rep_ij») i j)
+        (guarded .mul (guarded .add (guarded .div (row (now (d .entry)) i) (row (now (sigma .entry)) i)) (guarded .div (row (now (d .entry)) j) (row (now (sigma .entry)) j))) N.half) (matrix n (l .q) i j)) ⌝ }
+{
+    let rep_ij = c.rep_ij;
+    let eps_k_ij = c.eps_k_ij;
+    let q = l.q;
+    let rm = l.rm;
+    let mut b3 = [0.0; 64];
+    let mut k = 0;
+    while k < n * n {
+        let i = k / n;
+        let j = k % n;
+        b3[k] = delta_b3_at(t, eps_k_ij[k], rm[k], rep_ij[k], q[k], d[i], sigma[i], d[j], sigma[j]);
+        k += 1;
+    }
+    b3
+}
+
+// By the combined values c, the lengths l of the pairs, the diameters d and the density.
+pub fn helmholtz_energy_density(m: Mixture, s: State, c: Combined, l: LengthTables, d: &[f64; 8], density: f64) -> f64
+    requires { ⌜ (m .n ≤ 8) × CombinedOf m c × LengthsOf m (s .temperature) l × Row (m .n) (now d) (diameter-wca guarded (parameters guarded m) (s .temperature)) ⌝ }
+    requires { ⌜ density ≡ guarded .sum (m .n) (row (s .«partial_density»)) ⌝ }
+    ensures { λ r. ⌜ r ≡ F.helmholtz-energy-density guarded (parameters guarded m) (state guarded s) ⌝ }
+{
+    let n = m.n;
+    let t = s.temperature;
+    let x = s.molefracs;
+    let sigma = m.sigma;
+    let sigma_ij = c.sigma_ij;
+    let o = one_fluid_properties(n, c, &sigma, &x, d);
+    let b2 = delta_b2_ij(n, c, t, l);
+    let b2bar = virial_sum(n, &x, &sigma_ij, &b2);
+    let b3 = delta_b3_ij(n, c, t, l, d, &sigma);
+    let b3bar = third_virial_sum(n, &x, &sigma_ij, &b3);
+    energy(o, t, density, density * mean_cube(n, &x, &sigma), b2bar, b3bar)
 }

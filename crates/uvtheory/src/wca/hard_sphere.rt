@@ -1,5 +1,5 @@
 // uvtheory/eos/wca/hard_sphere.rs: diameters and lengths by Weeks, Chandler and Andersen.
-use crate::parameters::Mixture;
+use crate::parameters::{Combined, Mixture};
 use elementary::basic::div;
 use elementary::exponential::powf;
 use elementary::root::sqrt;
@@ -8,7 +8,9 @@ ghost use mathlib.Core.Path.{_≡_};
 ghost use Prim.Native.Nat.{_≤_, _<_, _*_};
 ghost use Rattle.arithmetic.specs.Doubles.{guarded};
 ghost use Rattle.uvtheory.specs.Literals as N;
-ghost use Rattle.uvtheory.specs.Rows.{row, matrix, Row, Matrix, parameters};
+ghost use Rattle.uvtheory.specs.Rows.{row, matrix, Matrix};
+ghost use Rattle.uvtheory.specs.Held.{Symmetric};
+ghost use Rattle.uvtheory.specs.Lengths.{RowsOf};
 ghost use Rattle.uvtheory.specs.Wca.HardSphere as F;
 
 const PI: f64 = 3.14159265358979323846264338327950288;
@@ -79,9 +81,7 @@ pub struct Rows {
 
 pub fn component_lengths(m: Mixture, temperature: f64) -> Rows
     requires { ⌜ m .n ≤ 8 ⌝ }
-    ensures { λ r. ⌜ Row (m .n) (r .rm) (λ i. F.rm-of guarded (row (m .rep) i) (row (m .att) i))
-        × Row (m .n) (r .d) (F.diameter-wca guarded (parameters guarded m) temperature)
-        × Row (m .n) (r .length) (F.dimensionless-length-scale guarded (parameters guarded m) temperature) ⌝ }
+    ensures { λ r. ⌜ RowsOf m temperature r ⌝ }
 {
     let n = m.n;
     let rep = m.rep;
@@ -112,4 +112,57 @@ pub fn tau(li: f64, lj: f64, sigma_ij: f64) -> f64
     ensures { λ r. ⌜ r ≡ F.tau guarded li lj «sigma_ij» ⌝ }
 {
     div(li + lj, sigma_ij) * 0.5
+}
+
+// The place of the minimum and q of a pair, and of all pairs.
+pub struct PairLengths {
+    pub rm: f64,
+    pub q: f64,
+}
+
+pub struct LengthTables {
+    pub rm: [f64; 64],
+    pub q: [f64; 64],
+}
+
+// Of the pair (i, j), or what was worked for (j, i).
+fn pair_lengths_at(i: usize, j: usize, t: f64, eps_k: f64, rep: f64, att: f64, worked: PairLengths) -> PairLengths
+    requires { ⌜ (j < i → (worked .rm ≡ F.rm-of guarded rep att) × (worked .q ≡ F.dimensionless-diameter-q-wca guarded (guarded .div t «eps_k») rep att)) ⌝ }
+    ensures { λ r. ⌜ (r .rm ≡ F.rm-of guarded rep att) × (r .q ≡ F.dimensionless-diameter-q-wca guarded (guarded .div t «eps_k») rep att) ⌝ }
+{
+    if j < i {
+        return worked;
+    }
+    let rm = rm_of(rep, att);
+    PairLengths {
+        rm,
+        q: q_of(div(t, eps_k), rep, att, rm),
+    }
+}
+
+// Of all pairs: each is worked once, for i up to j, and copied.
+pub fn pair_lengths(n: usize, c: Combined, t: f64) -> LengthTables
+    requires { ⌜ (n ≤ 8) × Symmetric n (c .«rep_ij») × Symmetric n (c .«att_ij») × Symmetric n (c .«eps_k_ij») ⌝ }
+    ensures { λ r. ⌜ Matrix n (r .rm) (λ i j. F.rm-of guarded (matrix n (c .«rep_ij») i j) (matrix n (c .«att_ij») i j))
+        × Matrix n (r .q) (λ i j. F.dimensionless-diameter-q-wca guarded (guarded .div t (matrix n (c .«eps_k_ij») i j)) (matrix n (c .«rep_ij») i j) (matrix n (c .«att_ij») i j)) ⌝ }
+{
+    let rep_ij = c.rep_ij;
+    let att_ij = c.att_ij;
+    let eps_k_ij = c.eps_k_ij;
+    let mut rm = [0.0; 64];
+    let mut q = [0.0; 64];
+    let mut k = 0;
+    while k < n * n {
+        let i = k / n;
+        let j = k % n;
+        let worked = PairLengths {
+            rm: rm[j * n + i],
+            q: q[j * n + i],
+        };
+        let l = pair_lengths_at(i, j, t, eps_k_ij[k], rep_ij[k], att_ij[k], worked);
+        rm[k] = l.rm;
+        q[k] = l.q;
+        k += 1;
+    }
+    LengthTables { rm, q }
 }

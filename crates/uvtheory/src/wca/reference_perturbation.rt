@@ -1,6 +1,8 @@
 // uvtheory/eos/wca/reference_perturbation.rs and reference_perturbation_uvb3.rs, which differ in their packing tables only.
-use crate::packing_fraction::{packing_fraction_a, packing_fraction_b};
-use crate::wca::hard_sphere::tau;
+use crate::packing_fraction::{packing_fraction, packing_fraction_a, packing_fraction_b};
+use crate::parameters::{Combined, Mixture, State};
+use crate::reference_energy::energy;
+use crate::wca::hard_sphere::{tau, LengthTables, Rows};
 use elementary::basic::div;
 
 ghost use mathlib.Core.Path.{_≡_};
@@ -11,7 +13,9 @@ ghost use mathlib.Core.List.{[]};
 ghost use Rattle.arithmetic.specs.Doubles.{guarded};
 ghost use Rattle.arithmetic.specs.Sums.{pairs};
 ghost use Rattle.uvtheory.specs.Literals as N;
-ghost use Rattle.uvtheory.specs.Rows.{row, table, matrix};
+ghost use Rattle.uvtheory.specs.Rows.{row, table, matrix, parameters, state};
+ghost use Rattle.uvtheory.specs.Held.{CombinedOf};
+ghost use Rattle.uvtheory.specs.Lengths.{RowsOf, LengthsOf};
 ghost use Rattle.uvtheory.specs.Wca.ReferencePerturbation as F;
 
 // Of a pair of components.
@@ -71,4 +75,23 @@ pub fn pair_sum(ta: [[f64; 4]; 4], tb: [[f64; 2]; 3], n: usize, x: &[f64; 8], rm
         k += 1;
     }
     sum
+}
+
+// By the packing tables ta and tb, the combined values c, the lengths r of the components and l of the pairs, and the density.
+pub fn helmholtz_energy_density(ta: [[f64; 4]; 4], tb: [[f64; 2]; 3], m: Mixture, s: State, c: Combined, r: Rows, l: LengthTables, density: f64) -> f64
+    requires { ⌜ (m .n ≤ 8) × CombinedOf m c × RowsOf m (s .temperature) r × LengthsOf m (s .temperature) l ⌝ }
+    requires { ⌜ density ≡ guarded .sum (m .n) (row (s .«partial_density»)) ⌝ }
+    ensures { λ v. ⌜ v ≡ F.helmholtz-energy-density guarded (table ta) (table tb) (parameters guarded m) (state guarded s) ⌝ }
+{
+    let n = m.n;
+    let x = s.molefracs;
+    let partial_density = s.partial_density;
+    let rm = r.rm;
+    let d = r.d;
+    let length = r.length;
+    let q = l.q;
+    let sigma_ij = c.sigma_ij;
+    let rep_ij = c.rep_ij;
+    let eta = packing_fraction(n, &partial_density, &d);
+    energy(pair_sum(ta, tb, n, &x, &rm, &d, &length, &q, &sigma_ij, &rep_ij, eta), density)
 }

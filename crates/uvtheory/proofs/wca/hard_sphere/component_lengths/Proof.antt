@@ -56,7 +56,7 @@ loop-again c =
 
 returns : tie.Need-returns Inv-loop μ-loop
 unfolding F.diameter-wca F.dimensionless-length-scale
-returns c = let l = c .before .loop .inv in ((λ i h. l .4 i (omega arith)), (λ i h. l .5 i (omega arith)), λ i h. l .6 i (omega arith))
+returns c = let l = c .before .loop .inv in record { rm-are = λ i h. l .4 i (omega arith); d-are = λ i h. l .5 i (omega arith); length-are = λ i h. l .6 i (omega arith) }
 
 pub component-lengths-spec : {M : Type 1} → statement M
 component-lengths-spec = tie.close (tie.spec Inv-loop μ-loop loop-holds (λ c. search needs) (λ c. search needs) (λ c. search needs) (λ c. search needs) (λ c κs. tt) (λ c. search needs) (λ c. search needs) (λ c κs. tt) (λ c. search needs) (λ c. search needs) (λ c. search needs) (λ c. search needs) (λ c κs. tt) (λ c. search needs) (λ c. search needs) (λ c. search needs) (λ c. search needs) (λ c. search needs) (λ c. search needs) (λ c. search needs) (λ c. search needs) (λ c. search needs) (λ c. search needs) loop-again returns)

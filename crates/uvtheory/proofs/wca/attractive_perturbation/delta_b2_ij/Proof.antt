@@ -1,0 +1,51 @@
+-- The loop's invariant: the first k pairs stand in their places.
+use Prim.Native.Nat.{ℕ, _≤_, _<_, _-_, _*_}
+use mathlib.Core.Path.{_≡_, refl, _∙_}
+use mathlib.Core.List.{List}
+use native.Mathlib.Omega.{arith}
+use borrow.Author.Needs.{needs}
+use lib.Ieee.{Float}
+use Rattle.arithmetic.specs.Doubles.{guarded}
+use Rattle.uvtheory.specs.Rows.{row, matrix}
+use Rattle.uvtheory.specs.Parameters.{mie-prefactor}
+use Rattle.uvtheory.specs.Wca.AttractivePerturbation as F
+use Rattle.uvtheory.proofs.Loops.{at-pair, pair-within, square-le, Filled, one-more, mirror}
+use Rattle.uvtheory.proofs.wca.attractive_perturbation.delta_b2_ij.Statement.{statement}
+use Rattle.uvtheory.proofs.wca.attractive_perturbation.delta_b2_ij.Tie as tie
+
+abbrev worked : ℕ → Float → List Float → List Float → List Float → List Float → List Float → ℕ → ℕ → Float
+worked n t rep-ij att-ij eps-k-ij q rm i j =
+    F.delta-b2-of guarded (guarded .div t (matrix n eps-k-ij i j)) (matrix n rep-ij i j) (matrix n att-ij i j) (matrix n q i j)
+    (mie-prefactor guarded (matrix n rep-ij i j) (matrix n att-ij i j)) (matrix n rm i j)
+
+abbrev Inv-loop : tie.InvT-loop
+Inv-loop n t rep-ij att-ij eps-k-ij q rm b2₀ k₀ b2 k = (k ≤ n * n) × Filled n k b2 (worked n t rep-ij att-ij eps-k-ij q rm)
+
+abbrev μ-loop : tie.MeasureT-loop
+μ-loop n t rep-ij att-ij eps-k-ij q rm b2₀ k₀ b2 k = n * n - k
+
+loop-holds : tie.Need-loop-holds Inv-loop μ-loop
+loop-holds c = (omega arith, (refl, λ i h. absurd (omega arith)))
+
+delta-b2-at-requires : tie.Need-delta-b2-at-requires Inv-loop μ-loop
+delta-b2-at-requires c κs b =
+    let l = c .before .loop in
+    let start = c .before .before .before .before .before .before .before in
+    let n = start .args .n in
+    let h : l .k < n * n = omega arith in
+    mirror (worked n (start .args .t) (start .args .c .«rep_ij») (start .args .c .«att_ij») (start .args .c .«eps_k_ij») (start .args .l .q) (start .args .l .rm)) n (l .k) (l .b2) h b (l .inv .1 .1) ∙ rw (start .pre .1 (l .k) h b, start .pre .2 (l .k) h b, start .pre .3 (l .k) h b, start .pre .4 (l .k) h b, start .pre .5 (l .k) h b)
+
+loop-again : tie.Need-loop-again Inv-loop μ-loop
+loop-again c =
+    let l = c .before .before .loop in
+    let start = c .before .before .before .before .before .before .before .before in
+    let n = start .args .n in
+    let h : l .k < n * n = omega arith in
+    (omega arith,
+    one-more n (l .k) (l .b2) (worked n (start .args .t) (start .args .c .«rep_ij») (start .args .c .«att_ij») (start .args .c .«eps_k_ij») (start .args .l .q) (start .args .l .rm)) _ (omega (arith, square-le n (start .pre .0))) (l .inv .1) (c .delta-b2-at .ensures ∙ rw (at-pair n (l .k))))
+
+returns : tie.Need-returns Inv-loop μ-loop
+returns c = λ k h. c .before .loop .inv .1 .1 k (omega arith)
+
+pub delta-b2-ij-spec : {M : Type 1} → statement M
+delta-b2-ij-spec = tie.close (tie.spec Inv-loop μ-loop loop-holds (λ c. omega (arith, square-le (c .before .before .before .before .before .before .args .n) (c .before .before .before .before .before .before .pre .0))) (λ c. let n = c .before .before .before .before .before .before .before .args .n in let h : c .before .loop .k < n * n = omega arith in omega (arith, pair-within n (c .before .loop .k) (c .before .before .before .before .before .before .before .pre .0) h)) (λ c. let n = c .before .before .before .before .before .before .before .args .n in let h : c .before .loop .k < n * n = omega arith in omega (arith, pair-within n (c .before .loop .k) (c .before .before .before .before .before .before .before .pre .0) h)) (λ c. let n = c .before .before .before .before .before .before .before .args .n in let h : c .before .loop .k < n * n = omega arith in omega (arith, pair-within n (c .before .loop .k) (c .before .before .before .before .before .before .before .pre .0) h)) (λ c. let n = c .before .before .before .before .before .before .before .args .n in let h : c .before .loop .k < n * n = omega arith in omega (arith, pair-within n (c .before .loop .k) (c .before .before .before .before .before .before .before .pre .0) h)) (λ c. let n = c .before .before .before .before .before .before .before .args .n in let h : c .before .loop .k < n * n = omega arith in omega (arith, pair-within n (c .before .loop .k) (c .before .before .before .before .before .before .before .pre .0) h)) (λ c. let n = c .before .before .before .before .before .before .before .args .n in let h : c .before .loop .k < n * n = omega arith in omega (arith, pair-within n (c .before .loop .k) (c .before .before .before .before .before .before .before .pre .0) h)) (λ c. let n = c .before .before .before .before .before .before .before .args .n in let h : c .before .loop .k < n * n = omega arith in omega (arith, pair-within n (c .before .loop .k) (c .before .before .before .before .before .before .before .pre .0) h)) (λ c. let n = c .before .before .before .before .before .before .before .args .n in let h : c .before .loop .k < n * n = omega arith in omega (arith, pair-within n (c .before .loop .k) (c .before .before .before .before .before .before .before .pre .0) h)) (λ c. let n = c .before .before .before .before .before .before .before .args .n in let h : c .before .loop .k < n * n = omega arith in omega (arith, pair-within n (c .before .loop .k) (c .before .before .before .before .before .before .before .pre .0) h)) (λ c. let n = c .before .before .before .before .before .before .before .args .n in let h : c .before .loop .k < n * n = omega arith in omega (arith, pair-within n (c .before .loop .k) (c .before .before .before .before .before .before .before .pre .0) h)) (λ c. let n = c .before .before .before .before .before .before .before .args .n in let h : c .before .loop .k < n * n = omega arith in omega (arith, pair-within n (c .before .loop .k) (c .before .before .before .before .before .before .before .pre .0) h)) (λ c. let n = c .before .before .before .before .before .before .before .args .n in let h : c .before .loop .k < n * n = omega arith in omega (arith, pair-within n (c .before .loop .k) (c .before .before .before .before .before .before .before .pre .0) h)) (λ c. let n = c .before .before .before .before .before .before .before .args .n in let h : c .before .loop .k < n * n = omega arith in omega (arith, pair-within n (c .before .loop .k) (c .before .before .before .before .before .before .before .pre .0) h)) (λ c. let n = c .before .before .before .before .before .before .before .args .n in let h : c .before .loop .k < n * n = omega arith in omega (arith, pair-within n (c .before .loop .k) (c .before .before .before .before .before .before .before .pre .0) h)) (λ c. let n = c .before .before .before .before .before .before .before .args .n in let h : c .before .loop .k < n * n = omega arith in omega (arith, pair-within n (c .before .loop .k) (c .before .before .before .before .before .before .before .pre .0) h)) (λ c. let n = c .before .before .before .before .before .before .before .args .n in let h : c .before .loop .k < n * n = omega arith in omega (arith, pair-within n (c .before .loop .k) (c .before .before .before .before .before .before .before .pre .0) h)) delta-b2-at-requires (λ c. let n = c .before .before .before .before .before .before .before .before .args .n in let h : c .before .before .loop .k < n * n = omega arith in omega (arith, pair-within n (c .before .before .loop .k) (c .before .before .before .before .before .before .before .before .pre .0) h)) (λ c. let n = c .before .before .before .before .before .before .before .before .args .n in let h : c .before .before .loop .k < n * n = omega arith in omega (arith, pair-within n (c .before .before .loop .k) (c .before .before .before .before .before .before .before .before .pre .0) h)) (λ c. let n = c .before .before .before .before .before .before .before .before .args .n in let h : c .before .before .loop .k < n * n = omega arith in omega (arith, pair-within n (c .before .before .loop .k) (c .before .before .before .before .before .before .before .before .pre .0) h)) (λ c. search needs) loop-again returns)

@@ -1,0 +1,43 @@
+-- The loop's invariant: the first k pairs stand in their places.
+use Prim.Native.Nat.{ℕ, _≤_, _<_, _-_, _*_}
+use mathlib.Core.Path.{_≡_, refl, _∙_}
+use mathlib.Core.List.{List}
+use native.Mathlib.Omega.{arith}
+use borrow.Author.Needs.{needs}
+use lib.Ieee.{Float}
+use Rattle.arithmetic.specs.Doubles.{guarded}
+use Rattle.uvtheory.specs.Rows.{row, matrix}
+use Rattle.uvtheory.specs.Literals as N
+use Rattle.uvtheory.specs.Wca.AttractivePerturbationUvb3 as F
+use Rattle.uvtheory.proofs.Loops.{at-pair, pair-within, square-le, Filled, one-more, mirror}
+use Rattle.uvtheory.proofs.wca.attractive_perturbation_uvb3.delta_b3_ij.Statement.{statement}
+use Rattle.uvtheory.proofs.wca.attractive_perturbation_uvb3.delta_b3_ij.Tie as tie
+
+abbrev worked : ℕ → Float → List Float → List Float → List Float → List Float → List Float → List Float → ℕ → ℕ → Float
+worked n t d sigma rep-ij eps-k-ij q rm i j =
+    F.delta-b3 guarded (guarded .div t (matrix n eps-k-ij i j)) (matrix n rm i j) (matrix n rep-ij i j)
+    (guarded .mul (guarded .add (guarded .div (row d i) (row sigma i)) (guarded .div (row d j) (row sigma j))) N.half) (matrix n q i j)
+
+abbrev Inv-loop : tie.InvT-loop
+Inv-loop n t d sigma rep-ij eps-k-ij q rm b3₀ k₀ b3 k = (k ≤ n * n) × Filled n k b3 (worked n t d sigma rep-ij eps-k-ij q rm)
+
+abbrev μ-loop : tie.MeasureT-loop
+μ-loop n t d sigma rep-ij eps-k-ij q rm b3₀ k₀ b3 k = n * n - k
+
+loop-holds : tie.Need-loop-holds Inv-loop μ-loop
+loop-holds c = (omega arith, (refl, λ i h. absurd (omega arith)))
+
+loop-again : tie.Need-loop-again Inv-loop μ-loop
+loop-again c =
+    let l = c .before .before .before .before .before .before .loop in
+    let start = c .before .before .before .before .before .before .before .before .before .before .before in
+    let n = start .args .n in
+    let h : l .k < n * n = omega arith in
+    (omega arith,
+    one-more n (l .k) (l .b3) (worked n (start .args .t) (start .args .d .now) (start .args .sigma .now) (start .args .c .«rep_ij») (start .args .c .«eps_k_ij») (start .args .l .q) (start .args .l .rm)) _ (omega (arith, square-le n (start .pre))) (l .inv .1) (c .delta-b3-at .ensures ∙ rw (at-pair n (l .k))))
+
+returns : tie.Need-returns Inv-loop μ-loop
+returns c = λ k h. c .before .loop .inv .1 .1 k (omega arith)
+
+pub delta-b3-ij-spec : {M : Type 1} → statement M
+delta-b3-ij-spec = tie.close (tie.spec Inv-loop μ-loop loop-holds (λ c. omega (arith, square-le (c .before .before .before .before .before .args .n) (c .before .before .before .before .before .pre))) (λ c. let n = c .before .before .before .before .before .before .args .n in let h : c .before .loop .k < n * n = omega arith in omega (arith, pair-within n (c .before .loop .k) (c .before .before .before .before .before .before .pre) h)) (λ c. let n = c .before .before .before .before .before .before .args .n in let h : c .before .loop .k < n * n = omega arith in omega (arith, pair-within n (c .before .loop .k) (c .before .before .before .before .before .before .pre) h)) (λ c. let n = c .before .before .before .before .before .before .args .n in let h : c .before .loop .k < n * n = omega arith in omega (arith, pair-within n (c .before .loop .k) (c .before .before .before .before .before .before .pre) h)) (λ c. let n = c .before .before .before .before .before .before .args .n in let h : c .before .loop .k < n * n = omega arith in omega (arith, pair-within n (c .before .loop .k) (c .before .before .before .before .before .before .pre) h)) (λ c. let n = c .before .before .before .before .before .before .args .n in let h : c .before .loop .k < n * n = omega arith in omega (arith, pair-within n (c .before .loop .k) (c .before .before .before .before .before .before .pre) h)) (λ c. let n = c .before .before .before .before .before .before .args .n in let h : c .before .loop .k < n * n = omega arith in omega (arith, pair-within n (c .before .loop .k) (c .before .before .before .before .before .before .pre) h)) (λ c. let n = c .before .before .before .before .before .before .args .n in let h : c .before .loop .k < n * n = omega arith in omega (arith, pair-within n (c .before .loop .k) (c .before .before .before .before .before .before .pre) h)) (λ c. let n = c .before .before .before .before .before .before .args .n in let h : c .before .loop .k < n * n = omega arith in omega (arith, pair-within n (c .before .loop .k) (c .before .before .before .before .before .before .pre) h)) (λ c. let n = c .before .before .before .before .before .before .args .n in let h : c .before .loop .k < n * n = omega arith in omega (arith, pair-within n (c .before .loop .k) (c .before .before .before .before .before .before .pre) h)) (λ c. let n = c .before .before .before .before .before .before .args .n in let h : c .before .loop .k < n * n = omega arith in omega (arith, pair-within n (c .before .loop .k) (c .before .before .before .before .before .before .pre) h)) (λ c. let n = c .before .before .before .before .before .before .args .n in let h : c .before .loop .k < n * n = omega arith in omega (arith, pair-within n (c .before .loop .k) (c .before .before .before .before .before .before .pre) h)) (λ c. let n = c .before .before .before .before .before .before .args .n in let h : c .before .loop .k < n * n = omega arith in omega (arith, pair-within n (c .before .loop .k) (c .before .before .before .before .before .before .pre) h)) (λ c. let n = c .before .before .before .before .before .before .before .args .n in let h : c .before .before .loop .k < n * n = omega arith in omega (arith, pair-within n (c .before .before .loop .k) (c .before .before .before .before .before .before .before .pre) h)) (λ c. let n = c .before .before .before .before .before .before .before .args .n in let h : c .before .before .loop .k < n * n = omega arith in omega (arith, pair-within n (c .before .before .loop .k) (c .before .before .before .before .before .before .before .pre) h)) (λ c. let n = c .before .before .before .before .before .before .before .before .args .n in let h : c .before .before .before .loop .k < n * n = omega arith in omega (arith, pair-within n (c .before .before .before .loop .k) (c .before .before .before .before .before .before .before .before .pre) h)) (λ c. let n = c .before .before .before .before .before .before .before .before .args .n in let h : c .before .before .before .loop .k < n * n = omega arith in omega (arith, pair-within n (c .before .before .before .loop .k) (c .before .before .before .before .before .before .before .before .pre) h)) (λ c. let n = c .before .before .before .before .before .before .before .before .before .args .n in let h : c .before .before .before .before .loop .k < n * n = omega arith in omega (arith, pair-within n (c .before .before .before .before .loop .k) (c .before .before .before .before .before .before .before .before .before .pre) h)) (λ c. let n = c .before .before .before .before .before .before .before .before .before .args .n in let h : c .before .before .before .before .loop .k < n * n = omega arith in omega (arith, pair-within n (c .before .before .before .before .loop .k) (c .before .before .before .before .before .before .before .before .before .pre) h)) (λ c κs. tt) (λ c. let n = c .before .before .before .before .before .before .before .before .before .before .before .args .n in let h : c .before .before .before .before .before .before .loop .k < n * n = omega arith in omega (arith, pair-within n (c .before .before .before .before .before .before .loop .k) (c .before .before .before .before .before .before .before .before .before .before .before .pre) h)) (λ c. let n = c .before .before .before .before .before .before .before .before .before .before .before .args .n in let h : c .before .before .before .before .before .before .loop .k < n * n = omega arith in omega (arith, pair-within n (c .before .before .before .before .before .before .loop .k) (c .before .before .before .before .before .before .before .before .before .before .before .pre) h)) (λ c. let n = c .before .before .before .before .before .before .before .before .before .before .before .args .n in let h : c .before .before .before .before .before .before .loop .k < n * n = omega arith in omega (arith, pair-within n (c .before .before .before .before .before .before .loop .k) (c .before .before .before .before .before .before .before .before .before .before .before .pre) h)) (λ c. search needs) loop-again returns)

@@ -1,0 +1,23 @@
+// uvtheory/eos/mod.rs: the contributions of a perturbation.
+use crate::contributions::Contributions;
+use crate::parameters::{Mixture, State};
+
+ghost use mathlib.Core.Path.{_≡_};
+ghost use Prim.Native.Nat.{_≤_};
+ghost use Rattle.arithmetic.specs.Doubles.{guarded};
+ghost use Rattle.uvtheory.specs.Rows.{parameters, state};
+ghost use Rattle.uvtheory.specs.Held.{ContributionsOf};
+ghost use Rattle.uvtheory.specs.Eos as F;
+
+pub fn contributions(perturbation: u8, m: Mixture, s: State) -> Contributions
+    requires { ⌜ m .n ≤ 8 ⌝ }
+    ensures { λ r. ⌜ ContributionsOf r (F.residual-helmholtz-energy-contributions guarded perturbation (parameters guarded m) (state guarded s)) ⌝ }
+{
+    if perturbation == 0 {
+        return crate::bh::residual_helmholtz_energy_contributions(m, s);
+    }
+    if perturbation == 1 {
+        return crate::wca::residual_helmholtz_energy_contributions(m, s);
+    }
+    crate::wca::residual_helmholtz_energy_contributions_b3(m, s)
+}
