@@ -65,11 +65,14 @@ module _ (A : Arithmetic) where
   abbrev pub delta-b2 : Value → Value → Value → Value → Value
   delta-b2 reduced-temperature rep att q = delta-b2-of reduced-temperature rep att q (mie-prefactor A rep att) (rm-of A rep att)
 
-  unfoldable pub residual-virial-coefficient : UVTheoryPars Value → (ℕ → Value) → Value → Value
-  residual-virial-coefficient p x t =
-      virial-sum A (p .n) x (p .sigma-ij) 3 (λ i j.
+  -- of the pair (i, j)
+  abbrev pub delta-b2-ij : UVTheoryPars Value → Value → ℕ → ℕ → Value
+  delta-b2-ij p t i j =
       let t-ij = t / p .eps-k-ij i j in
-      delta-b2 t-ij (p .rep-ij i j) (p .att-ij i j) (dimensionless-diameter-q-wca A t-ij (p .rep-ij i j) (p .att-ij i j)))
+      delta-b2 t-ij (p .rep-ij i j) (p .att-ij i j) (dimensionless-diameter-q-wca A t-ij (p .rep-ij i j) (p .att-ij i j))
+
+  unfoldable pub residual-virial-coefficient : UVTheoryPars Value → (ℕ → Value) → Value → Value
+  residual-virial-coefficient p x t = virial-sum A (p .n) x (p .sigma-ij) 3 (delta-b2-ij p t)
 
   -- `delta_a1u` of the properties of the one fluid, by its prefactor c
   unfoldable pub delta-a1u-of : OneFluid Value → Value → Value → Value → Value → Value → Value → Value

@@ -57,11 +57,14 @@ module _ (A : Arithmetic) where
   abbrev pub delta-b2 : Value → Value → Value → Value → Value
   delta-b2 reduced-temperature rep att q = delta-b2-of reduced-temperature rep q (rm-of A rep att)
 
-  unfoldable pub residual-virial-coefficient : UVTheoryPars Value → (ℕ → Value) → Value → Value
-  residual-virial-coefficient p x t =
-      virial-sum A (p .n) x (p .sigma-ij) 3 (λ i j.
+  -- of the pair (i, j)
+  abbrev pub delta-b2-ij : UVTheoryPars Value → Value → ℕ → ℕ → Value
+  delta-b2-ij p t i j =
       let t-ij = t / p .eps-k-ij i j in
-      delta-b2 t-ij (p .rep-ij i j) (p .att-ij i j) (dimensionless-diameter-q-wca A t-ij (p .rep-ij i j) (p .att-ij i j)))
+      delta-b2 t-ij (p .rep-ij i j) (p .att-ij i j) (dimensionless-diameter-q-wca A t-ij (p .rep-ij i j) (p .att-ij i j))
+
+  unfoldable pub residual-virial-coefficient : UVTheoryPars Value → (ℕ → Value) → Value → Value
+  residual-virial-coefficient p x t = virial-sum A (p .n) x (p .sigma-ij) 3 (delta-b2-ij p t)
 
   -- by the prefactor c of nu and att
   unfoldable pub delta-b31u-of : Value → Value → Value → Value → Value → Value → Value
@@ -104,12 +107,15 @@ module _ (A : Arithmetic) where
       + b3-term (K-LJ-B3 12) (K-LJ-B3 13) (K-LJ-B3 14) (K-LJ-B3 15) (M-B3 3) (L-B3 3) (P-B3 3) t-x rep-x * beta ^ 4
       - b30-uv rm-x rep-x d-x q-x
 
-  unfoldable pub residual-third-virial-coefficient : UVTheoryPars Value → (ℕ → Value) → Value → (ℕ → Value) → Value
-  residual-third-virial-coefficient p x t d =
-      virial-sum A (p .n) x (p .sigma-ij) 6 (λ i j.
+  -- of the pair (i, j)
+  abbrev pub delta-b3-ij : UVTheoryPars Value → Value → (ℕ → Value) → ℕ → ℕ → Value
+  delta-b3-ij p t d i j =
       let t-ij = t / p .eps-k-ij i j in
       delta-b3 t-ij (rm-of A (p .rep-ij i j) (p .att-ij i j)) (p .rep-ij i j) ((d i / p .sigma i + d j / p .sigma j) * constant N.half)
-      (dimensionless-diameter-q-wca A t-ij (p .rep-ij i j) (p .att-ij i j)))
+      (dimensionless-diameter-q-wca A t-ij (p .rep-ij i j) (p .att-ij i j))
+
+  unfoldable pub residual-third-virial-coefficient : UVTheoryPars Value → (ℕ → Value) → Value → (ℕ → Value) → Value
+  residual-third-virial-coefficient p x t d = virial-sum A (p .n) x (p .sigma-ij) 6 (delta-b3-ij p t d)
 
   unfoldable pub alpha : Value → Value → Value → Value
   alpha rho-x rep-x t-x = exp (- rho-x * recip A rep-x * constant (CU-WCA-UVB3 0) * (recip A (t-x ^ 2) * constant (CU-WCA-UVB3 1) + one))
