@@ -5,3 +5,4 @@ pub mod Arrays
 pub mod Lengths
 pub mod Loops
 pub mod Kept
+pub mod Agreement

@@ -2,11 +2,13 @@
 pub mod attractive_perturbation;
 pub mod hard_sphere;
 pub mod reference_perturbation;
+
 use crate::bh::hard_sphere::diameter_bh;
 use crate::contributions::Contributions;
 use crate::hard_sphere::sum;
-use crate::parameters::{combine, Mixture, State};
-
+use crate::parameters::Mixture;
+use crate::parameters::State;
+use crate::parameters::combine;
 ghost use Prim.Native.Nat.{_≤_};
 ghost use Rattle.arithmetic.specs.Doubles.{guarded};
 ghost use Rattle.uvtheory.specs.Rows.{parameters, state};

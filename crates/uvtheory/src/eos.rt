@@ -1,7 +1,7 @@
 // uvtheory/eos/mod.rs: the contributions of a perturbation.
 use crate::contributions::Contributions;
-use crate::parameters::{Mixture, State};
-
+use crate::parameters::Mixture;
+use crate::parameters::State;
 ghost use mathlib.Core.Path.{_≡_};
 ghost use Prim.Native.Nat.{_≤_};
 ghost use Rattle.arithmetic.specs.Doubles.{guarded};

@@ -2,7 +2,6 @@
 use crate::parameters::State;
 use elementary::basic::div;
 use elementary::logarithm::ln_1p;
-
 ghost use mathlib.Core.Path.{_≡_};
 ghost use Prim.Native.Nat.{_≤_, _<_, _*_};
 ghost use Rattle.arithmetic.specs.Doubles.{guarded};

@@ -2,7 +2,6 @@
 use crate::parameters::Combined;
 use elementary::basic::div;
 use elementary::exponential::powf;
-
 ghost use mathlib.Core.Path.{_≡_};
 ghost use Prim.Native.Nat.{_≤_, _<_, _*_};
 ghost use Rattle.arithmetic.specs.Doubles.{guarded};
@@ -101,7 +100,13 @@ pub fn cube_root(v: f64) -> f64
     powf(v, div(1.0, 3.0))
 }
 
-pub fn one_fluid_properties(n: usize, c: Combined, sigma: &[f64; 8], x: &[f64; 8], d: &[f64; 8]) -> OneFluid
+pub fn one_fluid_properties(
+    n: usize,
+    c: Combined,
+    sigma: &[f64; 8],
+    x: &[f64; 8],
+    d: &[f64; 8],
+) -> OneFluid
     requires { ⌜ n ≤ 8 ⌝ }
     ensures { λ r. ⌜ fluid r ≡ F.one-fluid-of guarded n (matrix n (c .«rep_ij»)) (matrix n (c .«att_ij»)) (matrix n (c .«sigma_ij»)) (matrix n (c .«eps_k_ij»)) (row (now (sigma .entry))) (row (now (x .entry))) (row (now (d .entry))) ⌝ }
 {

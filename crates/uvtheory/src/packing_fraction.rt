@@ -1,6 +1,5 @@
 // The packing fractions, which bh/hard_sphere.rs and wca/hard_sphere.rs have word for word but for tau and the tables.
 use elementary::basic::div;
-
 ghost use lib.Ieee.{nan};
 ghost use lib.ListN.{getD};
 ghost use mathlib.Core.List.{[]};

@@ -2,7 +2,6 @@
 use elementary::basic::div;
 use elementary::exponential::powf;
 use elementary::root::sqrt;
-
 ghost use mathlib.Core.Path.{_≡_};
 ghost use mathlib.Core.List.{[], _∷_};
 ghost use Prim.Native.Nat.{_+_, _*_, _≤_, _<_};
@@ -52,8 +51,16 @@ pub struct Combined {
 const CD_BH: [[f64; 3]; 4] = [
     [0.0, 1.09360455168912E-02, 0.0],
     [-2.00897880971934E-01, -1.27074910870683E-02, 0.0],
-    [1.40422470174053E-02, 7.35946850956932E-02, 1.28463973950737E-02],
-    [3.71527116894441E-03, 5.05384813757953E-03, 4.91003312452622E-02],
+    [
+        1.40422470174053E-02,
+        7.35946850956932E-02,
+        1.28463973950737E-02,
+    ],
+    [
+        3.71527116894441E-03,
+        5.05384813757953E-03,
+        4.91003312452622E-02,
+    ],
 ];
 
 pub fn mie_prefactor(rep: f64, att: f64) -> f64

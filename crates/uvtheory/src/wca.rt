@@ -3,11 +3,14 @@ pub mod attractive_perturbation;
 pub mod attractive_perturbation_uvb3;
 pub mod hard_sphere;
 pub mod reference_perturbation;
+
 use crate::contributions::Contributions;
 use crate::hard_sphere::sum;
-use crate::parameters::{combine, Mixture, State};
-use crate::wca::hard_sphere::{component_lengths, pair_lengths};
-
+use crate::parameters::Mixture;
+use crate::parameters::State;
+use crate::parameters::combine;
+use crate::wca::hard_sphere::component_lengths;
+use crate::wca::hard_sphere::pair_lengths;
 ghost use Prim.Native.Nat.{_≤_};
 ghost use Rattle.arithmetic.specs.Doubles.{guarded};
 ghost use Rattle.uvtheory.specs.Rows.{parameters, state};
@@ -55,7 +58,16 @@ pub fn residual_helmholtz_energy_contributions(m: Mixture, s: State) -> Contribu
     let density = sum(n, &partial_density);
     Contributions {
         hard_sphere: crate::hard_sphere::helmholtz_energy_density(n, &d, s, density),
-        reference: reference_perturbation::helmholtz_energy_density(WCA_CONSTANTS_ETA_A, WCA_CONSTANTS_ETA_B, m, s, c, r, l, density),
+        reference: reference_perturbation::helmholtz_energy_density(
+            WCA_CONSTANTS_ETA_A,
+            WCA_CONSTANTS_ETA_B,
+            m,
+            s,
+            c,
+            r,
+            l,
+            density,
+        ),
         attractive: attractive_perturbation::helmholtz_energy_density(m, s, c, l, &d, density),
     }
 }
@@ -74,7 +86,16 @@ pub fn residual_helmholtz_energy_contributions_b3(m: Mixture, s: State) -> Contr
     let density = sum(n, &partial_density);
     Contributions {
         hard_sphere: crate::hard_sphere::helmholtz_energy_density(n, &d, s, density),
-        reference: reference_perturbation::helmholtz_energy_density(WCA_CONSTANTS_ETA_A_UVB3, WCA_CONSTANTS_ETA_B_UVB3, m, s, c, r, l, density),
+        reference: reference_perturbation::helmholtz_energy_density(
+            WCA_CONSTANTS_ETA_A_UVB3,
+            WCA_CONSTANTS_ETA_B_UVB3,
+            m,
+            s,
+            c,
+            r,
+            l,
+            density,
+        ),
         attractive: attractive_perturbation_uvb3::helmholtz_energy_density(m, s, c, l, &d, density),
     }
 }

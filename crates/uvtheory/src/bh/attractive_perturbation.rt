@@ -1,11 +1,19 @@
 // uvtheory/eos/bh/attractive_perturbation.rs: the attractive perturbation by Barker-Henderson.
-use crate::one_fluid::{mean_cube, one_fluid_properties, virial_sum, OneFluid};
-use crate::parameters::{mean_field_of, mie_prefactor, Combined, Mixture, State};
+use crate::one_fluid::OneFluid;
+use crate::one_fluid::mean_cube;
+use crate::one_fluid::one_fluid_properties;
+use crate::one_fluid::virial_sum;
+use crate::parameters::Combined;
+use crate::parameters::Mixture;
+use crate::parameters::State;
+use crate::parameters::mean_field_of;
+use crate::parameters::mie_prefactor;
 use elementary::basic::div;
-use elementary::exponential::{exp, powf, tanh};
+use elementary::exponential::exp;
+use elementary::exponential::powf;
+use elementary::exponential::tanh;
 use elementary::logarithm::ln;
 use elementary::root::sqrt;
-
 ghost use mathlib.Core.Path.{_≡_};
 ghost use Prim.Native.Nat.{ℕ, _+_, _≤_, _<_, _*_};
 ghost use lib.Ieee.{Float, nan};
@@ -97,7 +105,8 @@ fn c12(rep: f64, d: f64, d_rep: f64) -> f64
     ensures { λ r. ⌜ r ≡ F.c12 guarded rep d «d_rep» ⌝ }
 {
     let s = -rep + 4.0;
-    (div(d_rep * (powf(1.0 * 2.0, s) - powf(d, rep - 4.0)), s) + div(-(d * d) * 4.0 + 1.0, 8.0)) * -0.75
+    (div(d_rep * (powf(1.0 * 2.0, s) - powf(d, rep - 4.0)), s) + div(-(d * d) * 4.0 + 1.0, 8.0))
+        * -0.75
 }
 
 fn c13(rep: f64, att: f64, d: f64) -> f64
@@ -105,7 +114,10 @@ fn c13(rep: f64, att: f64, d: f64) -> f64
 {
     let s = -rep + 6.0;
     let d2 = d * 2.0;
-    div(div(powf(d2, s) - 1.0, s) - ln(d2) * powf(d, -att + 6.0), 16.0)
+    div(
+        div(powf(d2, s) - 1.0, s) - ln(d2) * powf(d, -att + 6.0),
+        16.0,
+    )
 }
 
 fn coefficient_1(rep: f64, att: f64, d: f64) -> f64
@@ -123,11 +135,19 @@ fn coefficient(c: [f64; 4], rep_inv: f64, d: f64) -> f64
 }
 
 // By the prefactor c.
-fn correlation_integral_bh(rho_x: f64, mean_field_constant_x: f64, c: f64, rep_x: f64, att_x: f64, d_x: f64) -> f64
+fn correlation_integral_bh(
+    rho_x: f64,
+    mean_field_constant_x: f64,
+    c: f64,
+    rep_x: f64,
+    att_x: f64,
+    d_x: f64,
+) -> f64
     ensures { λ r. ⌜ r ≡ F.correlation-integral-of guarded «rho_x» «mean_field_constant_x» c «rep_x» «att_x» «d_x» ⌝ }
 {
     let rep_inv = div(1.0, rep_x);
-    let over = coefficient_1(rep_x, att_x, d_x) * rho_x + coefficient(C_BH[0], rep_inv, d_x) * (rho_x * rho_x);
+    let over = coefficient_1(rep_x, att_x, d_x) * rho_x
+        + coefficient(C_BH[0], rep_inv, d_x) * (rho_x * rho_x);
     let under = coefficient(C_BH[1], rep_inv, d_x) * rho_x + 1.0;
     -mean_field_constant_x + div(c * over, under * under)
 }
@@ -135,7 +155,10 @@ fn correlation_integral_bh(rho_x: f64, mean_field_constant_x: f64, c: f64, rep_x
 fn activation(c: f64, one_fluid_beta: f64) -> f64
     ensures { λ r. ⌜ r ≡ F.activation guarded c «one_fluid_beta» ⌝ }
 {
-    div(one_fluid_beta * sqrt(c), sqrt(one_fluid_beta * one_fluid_beta * c + 1.0))
+    div(
+        one_fluid_beta * sqrt(c),
+        sqrt(one_fluid_beta * one_fluid_beta * c + 1.0),
+    )
 }
 
 fn u_fraction_bh(rep_x: f64, reduced_density: f64, one_fluid_beta: f64) -> f64
@@ -195,7 +218,13 @@ fn delta_b2_ij(n: usize, c: Combined, t: f64) -> [f64; 64]
 }
 
 // By the combined values c, the diameters d and the density.
-pub fn helmholtz_energy_density(m: Mixture, s: State, c: Combined, d: &[f64; 8], density: f64) -> f64
+pub fn helmholtz_energy_density(
+    m: Mixture,
+    s: State,
+    c: Combined,
+    d: &[f64; 8],
+    density: f64,
+) -> f64
     requires { ⌜ (m .n ≤ 8) × CombinedOf m c × Row (m .n) (now d) (diameter-bh guarded (parameters guarded m) (s .temperature)) ⌝ }
     requires { ⌜ density ≡ guarded .sum (m .n) (row (s .«partial_density»)) ⌝ }
     ensures { λ r. ⌜ r ≡ F.helmholtz-energy-density guarded (parameters guarded m) (state guarded s) ⌝ }

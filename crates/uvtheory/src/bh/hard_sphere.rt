@@ -1,9 +1,10 @@
 // uvtheory/eos/bh/hard_sphere.rs: diameters by Barker-Henderson, and the tau of its packing fractions.
-use crate::parameters::{bh_coefficients, inv_a76, Mixture};
+use crate::parameters::Mixture;
+use crate::parameters::bh_coefficients;
+use crate::parameters::inv_a76;
 use elementary::basic::div;
 use elementary::exponential::powf;
 use elementary::logarithm::ln;
-
 ghost use mathlib.Core.Path.{_≡_};
 ghost use Prim.Native.Nat.{ℕ, _+_, _≤_, _<_, _*_};
 ghost use lib.Ieee.{Float, nan};
@@ -20,7 +21,11 @@ fn diameter_of(t: f64, c: [f64; 5], rep: f64, sigma: f64) -> f64
     ensures { λ r. ⌜ r ≡ F.diameter-of guarded t (row c 0) (row c 1) (row c 2) (row c 3) (row c 4) rep sigma ⌝ }
 {
     let d = powf(t, 0.25) * c[1] + powf(t, 0.75) * c[2] + powf(t, 1.25) * c[3];
-    powf(t * c[0] + d * ln(t + 1.0) + t * t * c[4] + 1.0, div(-0.5, rep)) * sigma
+    powf(
+        t * c[0] + d * ln(t + 1.0) + t * t * c[4] + 1.0,
+        div(-0.5, rep),
+    )
+        * sigma
 }
 
 pub fn diameter_bh(m: Mixture, temperature: f64) -> [f64; 8]

@@ -1,10 +1,13 @@
 // uvtheory/eos/bh/reference_perturbation.rs: the reference perturbation (Mayer-f) by Barker-Henderson.
 use crate::bh::hard_sphere::tau;
-use crate::packing_fraction::{packing_fraction, packing_fraction_a, packing_fraction_b};
-use crate::parameters::{Combined, Mixture, State};
+use crate::packing_fraction::packing_fraction;
+use crate::packing_fraction::packing_fraction_a;
+use crate::packing_fraction::packing_fraction_b;
+use crate::parameters::Combined;
+use crate::parameters::Mixture;
+use crate::parameters::State;
 use crate::reference_energy::energy;
 use elementary::basic::div;
-
 ghost use mathlib.Core.Path.{_≡_};
 ghost use Prim.Native.Nat.{ℕ, _+_, _≤_, _<_, _*_};
 ghost use lib.Ieee.{Float, nan};
@@ -38,11 +41,23 @@ fn term(xi: f64, xj: f64, eta_a: f64, eta_b: f64, di: f64, dj: f64, sigma_ij: f6
     let a = -eta_a + 1.0;
     let b = -eta_b + 1.0;
     let d_ij = (di + dj) * 0.5;
-    xi * xj * (div(-eta_a * 0.5 + 1.0, a * a * a) - div(-eta_b * 0.5 + 1.0, b * b * b))
+    xi
+        * xj
+        * (div(-eta_a * 0.5 + 1.0, a * a * a) - div(-eta_b * 0.5 + 1.0, b * b * b))
         * (-(d_ij * d_ij * d_ij) + sigma_ij * sigma_ij * sigma_ij)
 }
 
-fn term_of(xi: f64, xj: f64, di: f64, dj: f64, si: f64, sj: f64, sigma_ij: f64, rep_ij: f64, eta: f64) -> f64
+fn term_of(
+    xi: f64,
+    xj: f64,
+    di: f64,
+    dj: f64,
+    si: f64,
+    sj: f64,
+    sigma_ij: f64,
+    rep_ij: f64,
+    eta: f64,
+) -> f64
     ensures { λ r. ⌜ r ≡ F.term-of guarded xi xj di dj si sj «sigma_ij» «rep_ij» eta ⌝ }
 {
     let t = tau(di, si, dj, sj);
@@ -52,7 +67,15 @@ fn term_of(xi: f64, xj: f64, di: f64, dj: f64, si: f64, sj: f64, sigma_ij: f64, 
 }
 
 // The sum of the terms over all pairs.
-pub fn pair_sum(n: usize, x: &[f64; 8], d: &[f64; 8], sigma: &[f64; 8], sigma_ij: &[f64; 64], rep_ij: &[f64; 64], eta: f64) -> f64
+pub fn pair_sum(
+    n: usize,
+    x: &[f64; 8],
+    d: &[f64; 8],
+    sigma: &[f64; 8],
+    sigma_ij: &[f64; 64],
+    rep_ij: &[f64; 64],
+    eta: f64,
+) -> f64
     requires { ⌜ n ≤ 8 ⌝ }
     ensures { λ r. ⌜ r ≡ pairs guarded n (F.term-ij guarded (row (now (x .entry))) (row (now (d .entry))) (row (now (sigma .entry))) (matrix n (now («sigma_ij» .entry))) (matrix n (now («rep_ij» .entry))) eta) ⌝ }
 {
@@ -61,14 +84,31 @@ pub fn pair_sum(n: usize, x: &[f64; 8], d: &[f64; 8], sigma: &[f64; 8], sigma_ij
     while k < n * n {
         let i = k / n;
         let j = k % n;
-        sum = sum + term_of(x[i], x[j], d[i], d[j], sigma[i], sigma[j], sigma_ij[k], rep_ij[k], eta);
+        sum = sum
+            + term_of(
+                x[i],
+                x[j],
+                d[i],
+                d[j],
+                sigma[i],
+                sigma[j],
+                sigma_ij[k],
+                rep_ij[k],
+                eta,
+            );
         k += 1;
     }
     sum
 }
 
 // By the combined values c, the diameters d and the density.
-pub fn helmholtz_energy_density(m: Mixture, s: State, c: Combined, d: &[f64; 8], density: f64) -> f64
+pub fn helmholtz_energy_density(
+    m: Mixture,
+    s: State,
+    c: Combined,
+    d: &[f64; 8],
+    density: f64,
+) -> f64
     requires { ⌜ (m .n ≤ 8) × CombinedOf m c × Row (m .n) (now d) (diameter-bh guarded (parameters guarded m) (s .temperature)) ⌝ }
     requires { ⌜ density ≡ guarded .sum (m .n) (row (s .«partial_density»)) ⌝ }
     ensures { λ r. ⌜ r ≡ F.helmholtz-energy-density guarded (parameters guarded m) (state guarded s) ⌝ }

@@ -1,10 +1,20 @@
 // uvtheory/eos/wca/attractive_perturbation.rs: the attractive perturbation by Weeks, Chandler and Andersen.
-use crate::one_fluid::{mean_cube, one_fluid_properties, virial_sum, OneFluid};
-use crate::parameters::{mean_field_of, mie_prefactor, Combined, Mixture, State};
-use crate::wca::hard_sphere::{q_of, rm_of, LengthTables};
+use crate::one_fluid::OneFluid;
+use crate::one_fluid::mean_cube;
+use crate::one_fluid::one_fluid_properties;
+use crate::one_fluid::virial_sum;
+use crate::parameters::Combined;
+use crate::parameters::Mixture;
+use crate::parameters::State;
+use crate::parameters::mean_field_of;
+use crate::parameters::mie_prefactor;
+use crate::wca::hard_sphere::LengthTables;
+use crate::wca::hard_sphere::q_of;
+use crate::wca::hard_sphere::rm_of;
 use elementary::basic::div;
-use elementary::exponential::{exp, powf, tanh};
-
+use elementary::exponential::exp;
+use elementary::exponential::powf;
+use elementary::exponential::tanh;
 ghost use mathlib.Core.Path.{_≡_};
 ghost use Prim.Native.Nat.{_≤_, _<_, _*_};
 ghost use lib.Ieee.{Float};
@@ -82,7 +92,13 @@ const C2: [[f64; 2]; 3] = [
     [0.0, 0.0],
 ];
 
-pub fn delta_b12u(t_x: f64, mean_field_constant_x: f64, weighted_sigma3_ij: f64, q_x: f64, rm_x: f64) -> f64
+pub fn delta_b12u(
+    t_x: f64,
+    mean_field_constant_x: f64,
+    weighted_sigma3_ij: f64,
+    q_x: f64,
+    rm_x: f64,
+) -> f64
     ensures { λ r. ⌜ r ≡ F.delta-b12u guarded «t_x» «mean_field_constant_x» «weighted_sigma3_ij» «q_x» «rm_x» ⌝ }
 {
     let cubes = rm_x * rm_x * rm_x - q_x * q_x * q_x;
@@ -114,11 +130,20 @@ fn correlation_quotient(c: f64, rho_x: f64, rep_inv: f64, tau_x: f64) -> f64
 }
 
 // By the prefactor c and the place rm_x of the minimum of the one fluid.
-pub fn correlation_integral_wca(rho_x: f64, mean_field_constant_x: f64, c: f64, rep_x: f64, d_x: f64, q_x: f64, rm_x: f64) -> f64
+pub fn correlation_integral_wca(
+    rho_x: f64,
+    mean_field_constant_x: f64,
+    c: f64,
+    rep_x: f64,
+    d_x: f64,
+    q_x: f64,
+    rm_x: f64,
+) -> f64
     ensures { λ r. ⌜ r ≡ F.correlation-integral-of guarded «rho_x» «mean_field_constant_x» c «rep_x» «d_x» «q_x» «rm_x» ⌝ }
 {
     let cubes = q_x * q_x * q_x - rm_x * rm_x * rm_x;
-    div(cubes * 1.0, 3.0) - mean_field_constant_x + correlation_quotient(c, rho_x, div(1.0, rep_x), -d_x + rm_x)
+    div(cubes * 1.0, 3.0) - mean_field_constant_x
+        + correlation_quotient(c, rho_x, div(1.0, rep_x), -d_x + rm_x)
 }
 
 fn u_fraction_wca(rep_x: f64, reduced_density: f64) -> f64
@@ -134,7 +159,9 @@ fn beta_eff(beta: f64, rep: f64, c0: f64) -> f64
     let c1 = C2[0][0] + div(C2[0][1], rep);
     let c2 = C2[1][0] + div(C2[1][1], rep);
     let c3 = C2[2][0] + div(C2[2][1], rep);
-    let s = powf(beta, 1.05968091375869) * c1 + powf(beta, 3.41106168592999) * c2 + powf(beta, 0.0) * c3;
+    let s = powf(beta, 1.05968091375869) * c1
+        + powf(beta, 3.41106168592999) * c2
+        + powf(beta, 0.0) * c3;
     beta * (-div(1.0, s + 1.0) * c0 + 1.0)
 }
 
@@ -155,12 +182,22 @@ pub fn delta_b2(reduced_temperature: f64, rep: f64, att: f64, q: f64, c: f64, rm
     let y = exp(beta) - 1.0;
     let yeff = y_eff(beta, rep, rm, mean_field_of(c, rep, att, rm), alpha);
     let rm3 = rm * rm * rm;
-    let s = div(yeff * (5.0 * 5.0 * 5.0 - rm3), 3.0) + div(y * (-(q * q * q) + rm3), 3.0) + beta * alpha;
+    let s = div(yeff * (5.0 * 5.0 * 5.0 - rm3), 3.0)
+        + div(y * (-(q * q * q) + rm3), 3.0)
+        + beta * alpha;
     -s * 2.0 * PI
 }
 
 // delta_a1u of the properties of the one fluid, by its prefactor c.
-pub fn delta_a1u(o: OneFluid, t_x: f64, density: f64, mean_field_constant_x: f64, c: f64, q_vdw: f64, rm_x: f64) -> f64
+pub fn delta_a1u(
+    o: OneFluid,
+    t_x: f64,
+    density: f64,
+    mean_field_constant_x: f64,
+    c: f64,
+    q_vdw: f64,
+    rm_x: f64,
+) -> f64
     ensures { λ r. ⌜ r ≡ F.delta-a1u-of guarded (fluid o) «t_x» density «mean_field_constant_x» c «q_vdw» «rm_x» ⌝ }
 {
     let rho_x = density * (o.sigma * o.sigma * o.sigma);
@@ -177,12 +214,28 @@ pub fn energy(o: OneFluid, t: f64, density: f64, rho: f64, b2bar: f64) -> f64
     let mean_field_constant_x = mean_field_of(c, o.rep, o.att, rm_x);
     let q_vdw = q_of(t_x, o.rep, o.att, rm_x);
     let a1u = delta_a1u(o, t_x, density, mean_field_constant_x, c, q_vdw, rm_x);
-    let b21u = delta_b12u(t_x, mean_field_constant_x, o.weighted_sigma3_ij, q_vdw, rm_x);
+    let b21u = delta_b12u(
+        t_x,
+        mean_field_constant_x,
+        o.weighted_sigma3_ij,
+        q_vdw,
+        rm_x,
+    );
     density * (a1u + (-u_fraction_wca(o.rep, rho) + 1.0) * (b2bar - b21u) * density)
 }
 
 // Of the pair (i, j), or what was worked for (j, i).
-fn delta_b2_at(i: usize, j: usize, t: f64, eps_k: f64, rep: f64, att: f64, q: f64, rm: f64, worked: f64) -> f64
+fn delta_b2_at(
+    i: usize,
+    j: usize,
+    t: f64,
+    eps_k: f64,
+    rep: f64,
+    att: f64,
+    q: f64,
+    rm: f64,
+    worked: f64,
+) -> f64
     requires { ⌜ (j < i → worked ≡ F.delta-b2-of guarded (guarded .div t «eps_k») rep att q (mie-prefactor guarded rep att) rm) ⌝ }
     ensures { λ r. ⌜ r ≡ F.delta-b2-of guarded (guarded .div t «eps_k») rep att q (mie-prefactor guarded rep att) rm ⌝ }
 {
@@ -207,14 +260,31 @@ fn delta_b2_ij(n: usize, c: Combined, t: f64, l: LengthTables) -> [f64; 64]
     while k < n * n {
         let i = k / n;
         let j = k % n;
-        b2[k] = delta_b2_at(i, j, t, eps_k_ij[k], rep_ij[k], att_ij[k], q[k], rm[k], b2[j * n + i]);
+        b2[k] = delta_b2_at(
+            i,
+            j,
+            t,
+            eps_k_ij[k],
+            rep_ij[k],
+            att_ij[k],
+            q[k],
+            rm[k],
+            b2[j * n + i],
+        );
         k += 1;
     }
     b2
 }
 
 // By the combined values c, the lengths l of the pairs, the diameters d and the density.
-pub fn helmholtz_energy_density(m: Mixture, s: State, c: Combined, l: LengthTables, d: &[f64; 8], density: f64) -> f64
+pub fn helmholtz_energy_density(
+    m: Mixture,
+    s: State,
+    c: Combined,
+    l: LengthTables,
+    d: &[f64; 8],
+    density: f64,
+) -> f64
     requires { ⌜ (m .n ≤ 8) × CombinedOf m c × LengthsOf m (s .temperature) l × Row (m .n) (now d) (diameter-wca guarded (parameters guarded m) (s .temperature)) ⌝ }
     requires { ⌜ density ≡ guarded .sum (m .n) (row (s .«partial_density»)) ⌝ }
     ensures { λ r. ⌜ r ≡ F.helmholtz-energy-density guarded (parameters guarded m) (state guarded s) ⌝ }

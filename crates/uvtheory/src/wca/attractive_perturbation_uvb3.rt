@@ -1,12 +1,24 @@
 // uvtheory/eos/wca/attractive_perturbation_uvb3.rs: the attractive perturbation of WCA-B3.
-use crate::one_fluid::{mean_cube, one_fluid_properties, third_virial_sum, virial_sum, OneFluid};
-use crate::parameters::{mean_field_of, mie_prefactor, Combined, Mixture, State};
-use crate::wca::attractive_perturbation::{delta_a1u, delta_b12u};
-use crate::wca::hard_sphere::{q_of, rm_of, LengthTables};
+use crate::one_fluid::OneFluid;
+use crate::one_fluid::mean_cube;
+use crate::one_fluid::one_fluid_properties;
+use crate::one_fluid::third_virial_sum;
+use crate::one_fluid::virial_sum;
+use crate::parameters::Combined;
+use crate::parameters::Mixture;
+use crate::parameters::State;
+use crate::parameters::mean_field_of;
+use crate::parameters::mie_prefactor;
+use crate::wca::attractive_perturbation::delta_a1u;
+use crate::wca::attractive_perturbation::delta_b12u;
+use crate::wca::hard_sphere::LengthTables;
+use crate::wca::hard_sphere::q_of;
+use crate::wca::hard_sphere::rm_of;
 use elementary::basic::div;
 use elementary::basic::is_finite;
-use elementary::exponential::{exp, powf, tanh};
-
+use elementary::exponential::exp;
+use elementary::exponential::powf;
+use elementary::exponential::tanh;
 ghost use mathlib.Core.Path.{_≡_};
 ghost use Prim.Native.Nat.{ℕ, _+_, _≤_, _<_, _*_};
 ghost use lib.Ieee.{Float};
@@ -40,8 +52,22 @@ const C_B2_RSAP: [[f64; 4]; 4] = [
 
 // Constants for B3 Model for Mie nu-6 fluids
 const K_LJ_B3: [f64; 16] = [
-    -3.9806, 79.565, 0.5489, 5.3632, 1.4245, 57.292, 0.0, 1.0031, -39.755, -81.213, 0.6987, 30.156,
-    -23.692, -85.006, 0.7762, 12.798,
+    -3.9806,
+    79.565,
+    0.5489,
+    5.3632,
+    1.4245,
+    57.292,
+    0.0,
+    1.0031,
+    -39.755,
+    -81.213,
+    0.6987,
+    30.156,
+    -23.692,
+    -85.006,
+    0.7762,
+    12.798,
 ];
 
 const P_B3: [f64; 4] = [0.80844, -0.09541, 0.47525, -2.83283];
@@ -190,12 +216,14 @@ fn b30_uv(rm_x: f64, rep_x: f64, d_x: f64, q_x: f64) -> f64
     let tau = -d_x + rm_x;
     let tau2 = tau * tau;
     let rep_inv = div(1.0, rep_x);
-    let c1_eta_a = tau * (rep_inv * ETA_A_0[1] + ETA_A_0[0]) + tau2 * (rep_inv * ETA_A_0[3] + ETA_A_0[2]);
+    let c1_eta_a = tau * (rep_inv * ETA_A_0[1] + ETA_A_0[0])
+        + tau2 * (rep_inv * ETA_A_0[3] + ETA_A_0[2]);
     let c1_eta_b = tau * ETA_B_0[0] + tau2 * ETA_B_0[1];
     let d3 = d_x * d_x * d_x;
     let rm3 = rm_x * rm_x * rm_x;
     ten_volumes(d_x)
-        - div(d3 * 5.0, 9.0) * (PI * PI)
+        - div(d3 * 5.0, 9.0)
+            * (PI * PI)
             * ((-(q_x * q_x * q_x) + rm3) * (c1_eta_a + 1.0) - (-d3 + rm3) * (c1_eta_b + 1.0))
 }
 
@@ -205,11 +233,40 @@ pub fn delta_b3(t_x: f64, rm_x: f64, rep_x: f64, d_x: f64, q_x: f64) -> f64
     let beta = div(1.0, t_x);
     let beta2 = beta * beta;
     let beta3 = beta2 * beta;
-    let b31 = b3_term([K_LJ_B3[0], K_LJ_B3[1], K_LJ_B3[2], K_LJ_B3[3]], M_B3[0], L_B3[0], P_B3[0], t_x, rep_x);
-    let b32 = b3_term([K_LJ_B3[4], K_LJ_B3[5], K_LJ_B3[6], K_LJ_B3[7]], M_B3[1], L_B3[1], P_B3[1], t_x, rep_x);
-    let b33 = b3_term([K_LJ_B3[8], K_LJ_B3[9], K_LJ_B3[10], K_LJ_B3[11]], M_B3[2], L_B3[2], P_B3[2], t_x, rep_x);
-    let b34 = b3_term([K_LJ_B3[12], K_LJ_B3[13], K_LJ_B3[14], K_LJ_B3[15]], M_B3[3], L_B3[3], P_B3[3], t_x, rep_x);
-    ten_volumes(q_x) + b31 * beta + b32 * beta2 + b33 * beta3 + b34 * (beta3 * beta) - b30_uv(rm_x, rep_x, d_x, q_x)
+    let b31 = b3_term(
+        [K_LJ_B3[0], K_LJ_B3[1], K_LJ_B3[2], K_LJ_B3[3]],
+        M_B3[0],
+        L_B3[0],
+        P_B3[0],
+        t_x,
+        rep_x,
+    );
+    let b32 = b3_term(
+        [K_LJ_B3[4], K_LJ_B3[5], K_LJ_B3[6], K_LJ_B3[7]],
+        M_B3[1],
+        L_B3[1],
+        P_B3[1],
+        t_x,
+        rep_x,
+    );
+    let b33 = b3_term(
+        [K_LJ_B3[8], K_LJ_B3[9], K_LJ_B3[10], K_LJ_B3[11]],
+        M_B3[2],
+        L_B3[2],
+        P_B3[2],
+        t_x,
+        rep_x,
+    );
+    let b34 = b3_term(
+        [K_LJ_B3[12], K_LJ_B3[13], K_LJ_B3[14], K_LJ_B3[15]],
+        M_B3[3],
+        L_B3[3],
+        P_B3[3],
+        t_x,
+        rep_x,
+    );
+    ten_volumes(q_x) + b31 * beta + b32 * beta2 + b33 * beta3 + b34 * (beta3 * beta)
+        - b30_uv(rm_x, rep_x, d_x, q_x)
 }
 
 fn alpha(rho_x: f64, rep_x: f64, t_x: f64) -> f64
@@ -227,7 +284,13 @@ pub fn energy(o: OneFluid, t: f64, density: f64, rho: f64, b2bar: f64, b3bar: f6
     let mean_field_constant_x = mean_field_of(c, o.rep, o.att, rm_x);
     let q_vdw = q_of(t_x, o.rep, o.att, rm_x);
     let a1u = delta_a1u(o, t_x, density, mean_field_constant_x, c, q_vdw, rm_x);
-    let b21u = delta_b12u(t_x, mean_field_constant_x, o.weighted_sigma3_ij, q_vdw, rm_x);
+    let b21u = delta_b12u(
+        t_x,
+        mean_field_constant_x,
+        o.weighted_sigma3_ij,
+        q_vdw,
+        rm_x,
+    );
     let db31u = delta_b31u(t_x, o.weighted_sigma3_ij, rm_x, o.rep, c, o.d);
     let a = alpha(density * (o.sigma * o.sigma * o.sigma), o.rep, t_x);
     let b = (b2bar - b21u) * density + density * density * a * (b3bar - db31u) * 0.5;
@@ -235,7 +298,16 @@ pub fn energy(o: OneFluid, t: f64, density: f64, rho: f64, b2bar: f64, b3bar: f6
 }
 
 // Of the pair (i, j), or what was worked for (j, i).
-fn delta_b2_at(i: usize, j: usize, t: f64, eps_k: f64, rep: f64, q: f64, rm: f64, worked: f64) -> f64
+fn delta_b2_at(
+    i: usize,
+    j: usize,
+    t: f64,
+    eps_k: f64,
+    rep: f64,
+    q: f64,
+    rm: f64,
+    worked: f64,
+) -> f64
     requires { ⌜ (j < i → worked ≡ F.delta-b2-of guarded (guarded .div t «eps_k») rep q rm) ⌝ }
     ensures { λ r. ⌜ r ≡ F.delta-b2-of guarded (guarded .div t «eps_k») rep q rm ⌝ }
 {
@@ -266,13 +338,30 @@ fn delta_b2_ij(n: usize, c: Combined, t: f64, l: LengthTables) -> [f64; 64]
 }
 
 // Of the pair of components with diameters di and dj.
-fn delta_b3_at(t: f64, eps_k: f64, rm: f64, rep: f64, q: f64, di: f64, si: f64, dj: f64, sj: f64) -> f64
+fn delta_b3_at(
+    t: f64,
+    eps_k: f64,
+    rm: f64,
+    rep: f64,
+    q: f64,
+    di: f64,
+    si: f64,
+    dj: f64,
+    sj: f64,
+) -> f64
     ensures { λ r. ⌜ r ≡ F.delta-b3 guarded (guarded .div t «eps_k») rm rep (guarded .mul (guarded .add (guarded .div di si) (guarded .div dj sj)) N.half) q ⌝ }
 {
     delta_b3(div(t, eps_k), rm, rep, (div(di, si) + div(dj, sj)) * 0.5, q)
 }
 
-fn delta_b3_ij(n: usize, c: Combined, t: f64, l: LengthTables, d: &[f64; 8], sigma: &[f64; 8]) -> [f64; 64]
+fn delta_b3_ij(
+    n: usize,
+    c: Combined,
+    t: f64,
+    l: LengthTables,
+    d: &[f64; 8],
+    sigma: &[f64; 8],
+) -> [f64; 64]
     requires { ⌜ n ≤ 8 ⌝ }
     ensures { λ r. ⌜ Matrix n r (λ i j. F.delta-b3 guarded (guarded .div t (matrix n (c .«eps_k_ij») i j)) (matrix n (l .rm) i j) (matrix n (c .«rep_ij») i j)
         (guarded .mul (guarded .add (guarded .div (row (now (d .entry)) i) (row (now (sigma .entry)) i)) (guarded .div (row (now (d .entry)) j) (row (now (sigma .entry)) j))) N.half) (matrix n (l .q) i j)) ⌝ }
@@ -286,14 +375,31 @@ fn delta_b3_ij(n: usize, c: Combined, t: f64, l: LengthTables, d: &[f64; 8], sig
     while k < n * n {
         let i = k / n;
         let j = k % n;
-        b3[k] = delta_b3_at(t, eps_k_ij[k], rm[k], rep_ij[k], q[k], d[i], sigma[i], d[j], sigma[j]);
+        b3[k] = delta_b3_at(
+            t,
+            eps_k_ij[k],
+            rm[k],
+            rep_ij[k],
+            q[k],
+            d[i],
+            sigma[i],
+            d[j],
+            sigma[j],
+        );
         k += 1;
     }
     b3
 }
 
 // By the combined values c, the lengths l of the pairs, the diameters d and the density.
-pub fn helmholtz_energy_density(m: Mixture, s: State, c: Combined, l: LengthTables, d: &[f64; 8], density: f64) -> f64
+pub fn helmholtz_energy_density(
+    m: Mixture,
+    s: State,
+    c: Combined,
+    l: LengthTables,
+    d: &[f64; 8],
+    density: f64,
+) -> f64
     requires { ⌜ (m .n ≤ 8) × CombinedOf m c × LengthsOf m (s .temperature) l × Row (m .n) (now d) (diameter-wca guarded (parameters guarded m) (s .temperature)) ⌝ }
     requires { ⌜ density ≡ guarded .sum (m .n) (row (s .«partial_density»)) ⌝ }
     ensures { λ r. ⌜ r ≡ F.helmholtz-energy-density guarded (parameters guarded m) (state guarded s) ⌝ }
@@ -308,5 +414,12 @@ pub fn helmholtz_energy_density(m: Mixture, s: State, c: Combined, l: LengthTabl
     let b2bar = virial_sum(n, &x, &sigma_ij, &b2);
     let b3 = delta_b3_ij(n, c, t, l, d, &sigma);
     let b3bar = third_virial_sum(n, &x, &sigma_ij, &b3);
-    energy(o, t, density, density * mean_cube(n, &x, &sigma), b2bar, b3bar)
+    energy(
+        o,
+        t,
+        density,
+        density * mean_cube(n, &x, &sigma),
+        b2bar,
+        b3bar,
+    )
 }

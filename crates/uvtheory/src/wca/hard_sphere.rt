@@ -1,9 +1,9 @@
 // uvtheory/eos/wca/hard_sphere.rs: diameters and lengths by Weeks, Chandler and Andersen.
-use crate::parameters::{Combined, Mixture};
+use crate::parameters::Combined;
+use crate::parameters::Mixture;
 use elementary::basic::div;
 use elementary::exponential::powf;
 use elementary::root::sqrt;
-
 ghost use mathlib.Core.Path.{_≡_};
 ghost use Prim.Native.Nat.{_≤_, _<_, _*_};
 ghost use Rattle.arithmetic.specs.Doubles.{guarded};
@@ -126,7 +126,15 @@ pub struct LengthTables {
 }
 
 // Of the pair (i, j), or what was worked for (j, i).
-fn pair_lengths_at(i: usize, j: usize, t: f64, eps_k: f64, rep: f64, att: f64, worked: PairLengths) -> PairLengths
+fn pair_lengths_at(
+    i: usize,
+    j: usize,
+    t: f64,
+    eps_k: f64,
+    rep: f64,
+    att: f64,
+    worked: PairLengths,
+) -> PairLengths
     requires { ⌜ (j < i → (worked .rm ≡ F.rm-of guarded rep att) × (worked .q ≡ F.dimensionless-diameter-q-wca guarded (guarded .div t «eps_k») rep att)) ⌝ }
     ensures { λ r. ⌜ (r .rm ≡ F.rm-of guarded rep att) × (r .q ≡ F.dimensionless-diameter-q-wca guarded (guarded .div t «eps_k») rep att) ⌝ }
 {

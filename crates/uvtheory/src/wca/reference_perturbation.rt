@@ -1,10 +1,15 @@
 // uvtheory/eos/wca/reference_perturbation.rs and reference_perturbation_uvb3.rs, which differ in their packing tables only.
-use crate::packing_fraction::{packing_fraction, packing_fraction_a, packing_fraction_b};
-use crate::parameters::{Combined, Mixture, State};
+use crate::packing_fraction::packing_fraction;
+use crate::packing_fraction::packing_fraction_a;
+use crate::packing_fraction::packing_fraction_b;
+use crate::parameters::Combined;
+use crate::parameters::Mixture;
+use crate::parameters::State;
 use crate::reference_energy::energy;
-use crate::wca::hard_sphere::{tau, LengthTables, Rows};
+use crate::wca::hard_sphere::LengthTables;
+use crate::wca::hard_sphere::Rows;
+use crate::wca::hard_sphere::tau;
 use elementary::basic::div;
-
 ghost use mathlib.Core.Path.{_≡_};
 ghost use Prim.Native.Nat.{ℕ, _+_, _≤_, _<_, _*_};
 ghost use lib.Ieee.{Float, nan};
@@ -19,14 +24,24 @@ ghost use Rattle.uvtheory.specs.Lengths.{RowsOf, LengthsOf};
 ghost use Rattle.uvtheory.specs.Wca.ReferencePerturbation as F;
 
 // Of a pair of components.
-fn term(xi: f64, xj: f64, eta_a: f64, eta_b: f64, rs_ij: f64, d_ij: f64, q_ij: f64, sigma_ij: f64) -> f64
+fn term(
+    xi: f64,
+    xj: f64,
+    eta_a: f64,
+    eta_b: f64,
+    rs_ij: f64,
+    d_ij: f64,
+    q_ij: f64,
+    sigma_ij: f64,
+) -> f64
     ensures { λ r. ⌜ r ≡ F.term guarded xi xj «eta_a» «eta_b» «rs_ij» «d_ij» «q_ij» «sigma_ij» ⌝ }
 {
     let a = -eta_a + 1.0;
     let b = -eta_b + 1.0;
     let rs = rs_ij * sigma_ij;
     let rs3 = rs * rs * rs;
-    xi * xj
+    xi
+        * xj
         * (div(-eta_a * 0.5 + 1.0, a * a * a) * (-(q_ij * q_ij * q_ij) + rs3)
             - div(-eta_b * 0.5 + 1.0, b * b * b) * (-(d_ij * d_ij * d_ij) + rs3))
 }
@@ -39,17 +54,47 @@ pub struct Component {
     pub length: f64,
 }
 
-fn term_of(ta: [[f64; 4]; 4], tb: [[f64; 2]; 3], i: Component, j: Component, q: f64, sigma_ij: f64, rep_ij: f64, eta: f64) -> f64
+fn term_of(
+    ta: [[f64; 4]; 4],
+    tb: [[f64; 2]; 3],
+    i: Component,
+    j: Component,
+    q: f64,
+    sigma_ij: f64,
+    rep_ij: f64,
+    eta: f64,
+) -> f64
     ensures { λ r. ⌜ r ≡ F.term-of guarded (table ta) (table tb) (i .x) (j .x) (i .rm) (j .rm) (i .d) (j .d) (i .length) (j .length) q «sigma_ij» «rep_ij» eta ⌝ }
 {
     let t = tau(i.length, j.length, sigma_ij);
     let eta_a = packing_fraction_a(ta, eta, t, rep_ij);
     let eta_b = packing_fraction_b(tb, eta, t);
-    term(i.x, j.x, eta_a, eta_b, (i.rm + j.rm) * 0.5, (i.d + j.d) * 0.5, q * sigma_ij, sigma_ij)
+    term(
+        i.x,
+        j.x,
+        eta_a,
+        eta_b,
+        (i.rm + j.rm) * 0.5,
+        (i.d + j.d) * 0.5,
+        q * sigma_ij,
+        sigma_ij,
+    )
 }
 
 // The sum of the terms over all pairs.
-pub fn pair_sum(ta: [[f64; 4]; 4], tb: [[f64; 2]; 3], n: usize, x: &[f64; 8], rm: &[f64; 8], d: &[f64; 8], length: &[f64; 8], q: &[f64; 64], sigma_ij: &[f64; 64], rep_ij: &[f64; 64], eta: f64) -> f64
+pub fn pair_sum(
+    ta: [[f64; 4]; 4],
+    tb: [[f64; 2]; 3],
+    n: usize,
+    x: &[f64; 8],
+    rm: &[f64; 8],
+    d: &[f64; 8],
+    length: &[f64; 8],
+    q: &[f64; 64],
+    sigma_ij: &[f64; 64],
+    rep_ij: &[f64; 64],
+    eta: f64,
+) -> f64
     requires { ⌜ n ≤ 8 ⌝ }
     ensures { λ r. ⌜ r ≡ pairs guarded n (F.term-ij guarded (table ta) (table tb) (row (now (x .entry))) (row (now (rm .entry))) (row (now (d .entry))) (row (now (length .entry)))
         (matrix n (now (q .entry))) (matrix n (now («sigma_ij» .entry))) (matrix n (now («rep_ij» .entry))) eta) ⌝ }
@@ -78,7 +123,16 @@ pub fn pair_sum(ta: [[f64; 4]; 4], tb: [[f64; 2]; 3], n: usize, x: &[f64; 8], rm
 }
 
 // By the packing tables ta and tb, the combined values c, the lengths r of the components and l of the pairs, and the density.
-pub fn helmholtz_energy_density(ta: [[f64; 4]; 4], tb: [[f64; 2]; 3], m: Mixture, s: State, c: Combined, r: Rows, l: LengthTables, density: f64) -> f64
+pub fn helmholtz_energy_density(
+    ta: [[f64; 4]; 4],
+    tb: [[f64; 2]; 3],
+    m: Mixture,
+    s: State,
+    c: Combined,
+    r: Rows,
+    l: LengthTables,
+    density: f64,
+) -> f64
     requires { ⌜ (m .n ≤ 8) × CombinedOf m c × RowsOf m (s .temperature) r × LengthsOf m (s .temperature) l ⌝ }
     requires { ⌜ density ≡ guarded .sum (m .n) (row (s .«partial_density»)) ⌝ }
     ensures { λ v. ⌜ v ≡ F.helmholtz-energy-density guarded (table ta) (table tb) (parameters guarded m) (state guarded s) ⌝ }
@@ -93,5 +147,8 @@ pub fn helmholtz_energy_density(ta: [[f64; 4]; 4], tb: [[f64; 2]; 3], m: Mixture
     let sigma_ij = c.sigma_ij;
     let rep_ij = c.rep_ij;
     let eta = packing_fraction(n, &partial_density, &d);
-    energy(pair_sum(ta, tb, n, &x, &rm, &d, &length, &q, &sigma_ij, &rep_ij, eta), density)
+    energy(
+        pair_sum(ta, tb, n, &x, &rm, &d, &length, &q, &sigma_ij, &rep_ij, eta),
+        density,
+    )
 }

@@ -24,9 +24,10 @@ loop-holds c = (omega arith, refl)
 
 loop-again : tie.Need-loop-again Inv-loop μ-loop
 unfolding powerBy
-loop-again c =
-    (omega arith,
-    rw (c .before .before .loop .inv .1, sum-step))
+loop-again c = (
+  omega arith,
+  rw (c .before .before .loop .inv .1, sum-step),
+)
 
 returns : tie.Need-returns Inv-loop μ-loop
 returns c = let e : c .before .loop .i ≡ c .before .before .args .n = omega arith in c .before .loop .inv .1 ∙ ap (λ (k : ℕ). guarded .sum k (row (c .before .before .args .x .now))) e

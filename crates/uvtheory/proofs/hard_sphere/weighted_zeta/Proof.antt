@@ -25,12 +25,13 @@ loop-holds c = (omega arith, refl, refl, refl, refl)
 
 loop-again : tie.Need-loop-again Inv-loop μ-loop
 unfolding powerBy F.weighted-zeta
-loop-again c =
-    (omega arith,
-    rw (c .before .before .before .loop .inv .1, sum-step),
-    rw (c .before .before .before .loop .inv .2, sum-step),
-    rw (c .before .before .before .loop .inv .3, sum-step),
-    rw (c .before .before .before .loop .inv .4, sum-step))
+loop-again c = (
+  omega arith,
+  rw (c .before .before .before .loop .inv .1, sum-step),
+  rw (c .before .before .before .loop .inv .2, sum-step),
+  rw (c .before .before .before .loop .inv .3, sum-step),
+  rw (c .before .before .before .loop .inv .4, sum-step),
+)
 
 returns : tie.Need-returns Inv-loop μ-loop
 unfolding F.weighted-zeta

@@ -25,9 +25,10 @@ loop-holds c = (omega arith, refl)
 
 loop-again : tie.Need-loop-again Inv-loop μ-loop
 unfolding powerBy F.mean-cube
-loop-again c =
-    (omega arith,
-    rw (c .before .before .before .loop .inv .1, sum-step))
+loop-again c = (
+  omega arith,
+  rw (c .before .before .before .loop .inv .1, sum-step),
+)
 
 returns : tie.Need-returns Inv-loop μ-loop
 unfolding F.mean-cube

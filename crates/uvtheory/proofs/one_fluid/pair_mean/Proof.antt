@@ -25,9 +25,10 @@ loop-holds c = (omega arith, refl)
 
 loop-again : tie.Need-loop-again Inv-loop μ-loop
 unfolding powerBy F.pair-mean
-loop-again c =
-    (omega arith,
-    rw (c .before .before .before .before .loop .inv .1, sum-step, at-pair))
+loop-again c = (
+  omega arith,
+  rw (c .before .before .before .before .loop .inv .1, sum-step, at-pair),
+)
 
 returns : tie.Need-returns Inv-loop μ-loop
 unfolding F.pair-mean

@@ -25,9 +25,10 @@ loop-holds c = (omega arith, refl)
 
 loop-again : tie.Need-loop-again Inv-loop μ-loop
 unfolding powerBy F.packing-fraction
-loop-again c =
-    (omega arith,
-    rw (c .before .before .before .loop .inv .1, sum-step, c .before .before .before .before .div .ensures))
+loop-again c = (
+  omega arith,
+  rw (c .before .before .before .loop .inv .1, sum-step, c .before .before .before .before .div .ensures),
+)
 
 returns : tie.Need-returns Inv-loop μ-loop
 unfolding F.packing-fraction

@@ -7,7 +7,6 @@ use Rattle.uvtheory.specs.Rows.{parameters, state}
 use Rattle.uvtheory.proofs.Combined.{rep-symmetric, att-symmetric, epsilon-symmetric}
 use Rattle.uvtheory.proofs.Lengths.{lengths-are}
 use Rattle.uvtheory.proofs.Arrays.{hard-sphere-of}
-
 use Rattle.uvtheory.proofs.wca.residual_helmholtz_energy_contributions_b3.Statement.{statement}
 use Rattle.uvtheory.proofs.wca.residual_helmholtz_energy_contributions_b3.Tie as tie
 

@@ -38,9 +38,11 @@ loop-again c =
     let l = c .before .before .loop in
     let start = c .before .before .before .before .before .before in
     let n = start .args .n in
-    let a = start .args .c in
-    (omega arith, one-more n (l .k) (l .b2) (worked n (start .args .t) (a .«rep_ij») (a .«att_ij») (a .«eps_k_ij»)) _ (omega (arith, square-le n (start .pre .0)))
-      (l .inv .1) (c .delta-b2-at .ensures ∙ rw (at-pair n (l .k))))
+    let a = start .args .c in (
+      omega arith,
+      one-more n (l .k) (l .b2) (worked n (start .args .t) (a .«rep_ij») (a .«att_ij») (a .«eps_k_ij»)) _ (omega (arith, square-le n (start .pre .0)))
+          (l .inv .1) (c .delta-b2-at .ensures ∙ rw (at-pair n (l .k))),
+    )
 
 returns : tie.Need-returns Inv-loop μ-loop
 returns c = λ k h. c .before .loop .inv .1 .1 k (omega arith)

@@ -22,7 +22,7 @@ returns c =
     let x = row (s .molefracs) in
     let one-fluid = one-fluid-is m a held x (start .args .d .now) (diameter-bh guarded (parameters guarded m) (s .temperature)) (start .pre .0 .2) in
     let virial = virial-sum-of m a held x 3 (b2 .delta-b2-ij .result) (F.delta-b2-ij guarded (parameters guarded m) (s .temperature))
-      (λ k l. b2 .delta-b2-ij .ensures k l ∙ rw (rep-at m a held k l, att-at m a held k l, epsilon-at m a held k l)) in
+    (λ k l. b2 .delta-b2-ij .ensures k l ∙ rw (rep-at m a held k l, att-at m a held k l, epsilon-at m a held k l)) in
     c .energy .ensures ∙ rw (o .one-fluid-properties .ensures, one-fluid, c .before .mean-cube .ensures, c .before .before .before .before .virial-sum .ensures, virial, start .pre .1)
 
 pub helmholtz-energy-density-spec : {M : Type 1} → statement M

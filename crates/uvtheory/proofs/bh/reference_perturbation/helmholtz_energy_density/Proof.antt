@@ -27,8 +27,8 @@ returns c =
     let h = start .pre .0 .2 in
     let eta = P.packing-fraction guarded n (row (s .«partial_density»)) d in
     let pairs = sum-ext (n * n) (λ k. F.term-ij guarded (row (s .molefracs)) (row ds) (row (m .sigma)) (matrix n (a .«sigma_ij»)) (matrix n (a .«rep_ij»)) eta (k / n) (k % n))
-      (λ k. F.term-ij guarded (row (s .molefracs)) d (row (m .sigma)) (p .sigma-ij) (p .rep-ij) eta (k / n) (k % n))
-      (λ k l. rw (sigma-at m a held k l, rep-at m a held k l, h (k / n) (row-of n k l), h (k % n) (column-of n k l))) in
+    (λ k. F.term-ij guarded (row (s .molefracs)) d (row (m .sigma)) (p .sigma-ij) (p .rep-ij) eta (k / n) (k % n))
+    (λ k l. rw (sigma-at m a held k l, rep-at m a held k l, h (k / n) (row-of n k l), h (k % n) (column-of n k l))) in
     c .energy .ensures ∙ rw (c .before .pair-sum .ensures, c .before .before .before .before .before .before .packing-fraction .ensures, packing-fraction-of n (row (s .«partial_density»)) ds d h, pairs, start .pre .1)
 
 pub helmholtz-energy-density-spec : {M : Type 1} → statement M

@@ -40,9 +40,10 @@ loop-again c =
     let l = c .before .before .loop in
     let start = c .before .before .before .before .before .before .before .before in
     let n = start .args .n in
-    let h : l .k < n * n = omega arith in
-    (omega arith,
-    one-more n (l .k) (l .b2) (worked n (start .args .t) (start .args .c .«rep_ij») (start .args .c .«att_ij») (start .args .c .«eps_k_ij») (start .args .l .q) (start .args .l .rm)) _ (omega (arith, square-le n (start .pre .0))) (l .inv .1) (c .delta-b2-at .ensures ∙ rw (at-pair n (l .k))))
+    let h : l .k < n * n = omega arith in (
+      omega arith,
+      one-more n (l .k) (l .b2) (worked n (start .args .t) (start .args .c .«rep_ij») (start .args .c .«att_ij») (start .args .c .«eps_k_ij») (start .args .l .q) (start .args .l .rm)) _ (omega (arith, square-le n (start .pre .0))) (l .inv .1) (c .delta-b2-at .ensures ∙ rw (at-pair n (l .k))),
+    )
 
 returns : tie.Need-returns Inv-loop μ-loop
 returns c = λ k h. c .before .loop .inv .1 .1 k (omega arith)

@@ -32,19 +32,21 @@ pair-lengths-at-requires c κs b =
     let l = c .before .loop in
     let start = c .before .before .before .before .before in
     let n = start .args .n in
-    let h : l .k < n * n = omega arith in
-    (mirror (minimum n (start .args .t) (start .args .c .«rep_ij») (start .args .c .«att_ij») (start .args .c .«eps_k_ij»)) n (l .k) (l .rm) h b (l .inv .1 .1) ∙ rw (start .pre .1 (l .k) h b, start .pre .2 (l .k) h b),
-    mirror (diameter n (start .args .t) (start .args .c .«rep_ij») (start .args .c .«att_ij») (start .args .c .«eps_k_ij»)) n (l .k) (l .q) h b (l .inv .2 .1) ∙ rw (start .pre .1 (l .k) h b, start .pre .2 (l .k) h b, start .pre .3 (l .k) h b))
+    let h : l .k < n * n = omega arith in (
+      mirror (minimum n (start .args .t) (start .args .c .«rep_ij») (start .args .c .«att_ij») (start .args .c .«eps_k_ij»)) n (l .k) (l .rm) h b (l .inv .1 .1) ∙ rw (start .pre .1 (l .k) h b, start .pre .2 (l .k) h b),
+      mirror (diameter n (start .args .t) (start .args .c .«rep_ij») (start .args .c .«att_ij») (start .args .c .«eps_k_ij»)) n (l .k) (l .q) h b (l .inv .2 .1) ∙ rw (start .pre .1 (l .k) h b, start .pre .2 (l .k) h b, start .pre .3 (l .k) h b),
+    )
 
 loop-again : tie.Need-loop-again Inv-loop μ-loop
 loop-again c =
     let l = c .before .before .loop in
     let start = c .before .before .before .before .before .before in
     let n = start .args .n in
-    let h : l .k < n * n = omega arith in
-    (omega arith,
-    one-more n (l .k) (l .rm) (minimum n (start .args .t) (start .args .c .«rep_ij») (start .args .c .«att_ij») (start .args .c .«eps_k_ij»)) _ (omega (arith, square-le n (start .pre .0))) (l .inv .1) (c .pair-lengths-at .ensures .0 ∙ rw (at-pair n (l .k))),
-    one-more n (l .k) (l .q) (diameter n (start .args .t) (start .args .c .«rep_ij») (start .args .c .«att_ij») (start .args .c .«eps_k_ij»)) _ (omega (arith, square-le n (start .pre .0))) (l .inv .2) (c .pair-lengths-at .ensures .1 ∙ rw (at-pair n (l .k))))
+    let h : l .k < n * n = omega arith in (
+      omega arith,
+      one-more n (l .k) (l .rm) (minimum n (start .args .t) (start .args .c .«rep_ij») (start .args .c .«att_ij») (start .args .c .«eps_k_ij»)) _ (omega (arith, square-le n (start .pre .0))) (l .inv .1) (c .pair-lengths-at .ensures .0 ∙ rw (at-pair n (l .k))),
+      one-more n (l .k) (l .q) (diameter n (start .args .t) (start .args .c .«rep_ij») (start .args .c .«att_ij») (start .args .c .«eps_k_ij»)) _ (omega (arith, square-le n (start .pre .0))) (l .inv .2) (c .pair-lengths-at .ensures .1 ∙ rw (at-pair n (l .k))),
+    )
 
 returns : tie.Need-returns Inv-loop μ-loop
 returns c = ((λ k h. c .before .loop .inv .1 .1 k (omega arith)), (λ k h. c .before .loop .inv .2 .1 k (omega arith)))

@@ -33,13 +33,22 @@ returns c =
     let ta = table (start .args .ta) in
     let tb = table (start .args .tb) in
     let pairs = sum-ext (n * n)
-      (λ k. F.term-ij guarded ta tb x (row (r .rm)) (row (r .d)) (row (r .length)) (matrix n (start .args .l .q)) (matrix n (a .«sigma_ij»)) (matrix n (a .«rep_ij»)) eta (k / n) (k % n))
-      (λ k. F.term-ij guarded ta tb x rm d length q (p .sigma-ij) (p .rep-ij) eta (k / n) (k % n))
-      (λ k l.
-        let i = row-of n k l in
-        let j = column-of n k l in
-        rw (matrix-at n (start .args .l .q) q (start .pre .0 .3 .q-are) k l, sigma-at m a held k l, rep-at m a held k l, rows .rm-are (k / n) i, rows .rm-are (k % n) j,
-          rows .d-are (k / n) i, rows .d-are (k % n) j, rows .length-are (k / n) i, rows .length-are (k % n) j)) in
+    (λ k. F.term-ij guarded ta tb x (row (r .rm)) (row (r .d)) (row (r .length)) (matrix n (start .args .l .q)) (matrix n (a .«sigma_ij»)) (matrix n (a .«rep_ij»)) eta (k / n) (k % n))
+    (λ k. F.term-ij guarded ta tb x rm d length q (p .sigma-ij) (p .rep-ij) eta (k / n) (k % n))
+    (λ k l.
+    let i = row-of n k l in
+    let j = column-of n k l in
+    rw (
+      matrix-at n (start .args .l .q) q (start .pre .0 .3 .q-are) k l,
+      sigma-at m a held k l,
+      rep-at m a held k l,
+      rows .rm-are (k / n) i,
+      rows .rm-are (k % n) j,
+      rows .d-are (k / n) i,
+      rows .d-are (k % n) j,
+      rows .length-are (k / n) i,
+      rows .length-are (k % n) j,
+    )) in
     c .energy .ensures ∙ rw (c .before .pair-sum .ensures, c .before .before .before .before .before .before .before .before .before .packing-fraction .ensures, packing-fraction-of n (row (s .«partial_density»)) (r .d) d (rows .d-are), pairs, start .pre .1)
 
 pub helmholtz-energy-density-spec : {M : Type 1} → statement M

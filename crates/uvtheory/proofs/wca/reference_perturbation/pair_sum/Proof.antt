@@ -26,9 +26,10 @@ loop-holds c = (omega arith, refl)
 
 loop-again : tie.Need-loop-again Inv-loop μ-loop
 unfolding powerBy
-loop-again c =
-    (omega arith,
-    rw (c .before .before .before .before .before .before .before .before .before .before .before .before .before .loop .inv .1, sum-step, c .term-of .ensures, at-pair))
+loop-again c = (
+  omega arith,
+  rw (c .before .before .before .before .before .before .before .before .before .before .before .before .before .loop .inv .1, sum-step, c .term-of .ensures, at-pair),
+)
 
 returns : tie.Need-returns Inv-loop μ-loop
 returns c = let e : c .before .loop .k ≡ c .before .before .args .n * c .before .before .args .n = omega arith in c .before .loop .inv .1 ∙ ap (λ (m : ℕ). guarded .sum m (λ l. F.term-ij guarded (table (c .before .before .args .ta)) (table (c .before .before .args .tb)) (row (c .before .before .args .x .now)) (row (c .before .before .args .rm .now)) (row (c .before .before .args .d .now)) (row (c .before .before .args .length .now)) (matrix (c .before .before .args .n) (c .before .before .args .q .now)) (matrix (c .before .before .args .n) (c .before .before .args .sigma-ij .now)) (matrix (c .before .before .args .n) (c .before .before .args .rep-ij .now)) (c .before .before .args .eta) (l / c .before .before .args .n) (l % c .before .before .args .n))) e
