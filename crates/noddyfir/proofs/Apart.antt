@@ -1,17 +1,17 @@
 -- "One record's answer depends on its own bytes alone": where there is room, the run of whole records writes their answers one after the other.
-use Prim.Native.Nat.{ℕ, zero, suc, _+_, _-_, _*_, _<_, _≤_}
+use Prim.Native.Nat.{ℕ, zero, suc, _+_, _<_, _≤_}
 use native.Mathlib.Omega.{arith}
 use native.Mathlib.Numerals.{one-add}
-use mathlib.Core.Path.{_≡_, refl, sym, ap, _∙_, subst}
-use mathlib.Core.Bool.{Bool, true, false, cond, _&&_}
-use mathlib.Core.List.{List, [], _∷_, _++_, map, append-assoc, append-nil}
-use lib.ListN.{length, take, drop, getD, length-append, length-drop, List·getD-append}
+use mathlib.Core.Path.{_≡_, refl, ap, _∙_}
+use mathlib.Core.Bool.{false}
+use mathlib.Core.List.{List, [], _∷_, _++_, map, append-assoc}
+use lib.ListN.{length, drop, length-append, List·getD-append}
 use lib.Seq.{take-append-seam, drop-append-seam, drop-drop}
-use lib.Dec.{leb, eqb, ltb}
-use borrow.Author.Tests.{le-leb, leb-true, ne-eqb, le-ltb}
+use lib.Dec.{eqb}
+use borrow.Author.Tests.{le-leb, ne-eqb, le-ltb}
 use Rattle.case_record.specs.Bytes.{bigEndian, written}
-use Rattle.noddyfir.specs.declared.run.Next.the-variants.{UsedUp, Broken, Whole}
-use Rattle.noddyfir.specs.Run.{nextOf, Outcome, after, stopped, runFrom, runOf}
+use Rattle.noddyfir.specs.declared.run.Next.the-variants.{Whole}
+use Rattle.noddyfir.specs.Run.{nextOf, runFrom, runOf}
 
 abbrev pub joined : List (List ℕ) → List ℕ
 joined [] = []

@@ -8,6 +8,7 @@ use crate::call::energies;
 use case_record::bytes::big_endian2;
 
 // Records done, bytes read, bytes written, and why the run stopped: 0 input used up, 2 broken tail, 1 no room for an answer.
+#[repr(C)]
 pub struct Run {
     pub records: usize,
     pub read: usize,
@@ -61,7 +62,8 @@ fn answer_size(room: usize, code: u8) -> usize
 }
 
 // Answers the records one after the other: each answer is written where the one before it ended.
-pub fn run_energies(records: &[u8], answers: &mut [u8]) -> Run
+#[no_mangle]
+pub extern "C" fn run_energies(records: &[u8], answers: &mut [u8]) -> Run
     ensures { λ r. ⌜ (r ≡ runOf 28 energiesAnswer (now (records .entry)) (now (answers .entry)) .run) × (now (answers .exit) ≡ runOf 28 energiesAnswer (now (records .entry)) (now (answers .entry)) .answers) ⌝ }
     ensures within { λ r. ⌜ (r .read ≤ length (now (records .entry))) × (r .written ≤ length (now (answers .exit))) ⌝ }
 {
