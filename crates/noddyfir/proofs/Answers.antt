@@ -1,0 +1,108 @@
+-- The answer to a record: what the code works is what the definition says, and an answer has as many bytes as its code says.
+use Prim.Native.Nat.{ℕ, _≤_}
+use native.Mathlib.Omega.{arith}
+use mathlib.Core.Path.{_≡_, refl, sym, ap, _∙_, subst⁻¹}
+use mathlib.Core.List.{List}
+use lib.ListN.{length}
+use lib.Dec.{eqb}
+use borrow.Author.Tests.{eq-eqb, ne-eqb}
+use mathlib.Core.Bool.{Bool, true, false, _&&_, cond}
+use lib.Ieee.{Float, nan, inf, fin}
+use lib.Ieee.Scale.{finite}
+use Rattle.arithmetic.specs.Doubles.{checked, doubles, guarded}
+use Rattle.uvtheory.specs.Contributions.{Contributions}
+use Rattle.uvtheory.specs.Eos.{residual-helmholtz-energy-contributions}
+use Rattle.uvtheory.specs.Rows.{parameters, state}
+use Rattle.uvtheory.proofs.Agreement.{Agree, contributions-agree}
+use Rattle.case_record.specs.declared.answer.Energies.{Energies}
+use Rattle.case_record.specs.declared.answer.Energies.the-variants.{Values, Refused}
+use Rattle.case_record.specs.declared.case.Case.{Case}
+use Rattle.case_record.specs.Bytes.{bytesOf, doubleBytes}
+use Rattle.case_record.specs.Record.{caseOf}
+use Rattle.case_record.specs.Checks.{refusalOf}
+use Rattle.case_record.specs.Answer.{answerBytes, codeOf}
+use Rattle.noddyfir.specs.Call.{answerOf, energiesAnswer, energiesOf, finiteOr9}
+use Rattle.noddyfir.specs.Run.{sizeOf}
+
+module _ (s : List ℕ) where
+  pub refused : (refusalOf s ≡ 0 → ⊥) → answerOf s ≡ Refused (refusalOf s)
+  unfolding answerOf
+  refused h = simp (ne-eqb (refusalOf s) 0 h)
+
+  pub accepted : refusalOf s ≡ 0 → answerOf s ≡ energiesOf (caseOf s)
+  unfolding answerOf
+  accepted h = simp (eq-eqb (refusalOf s) 0 h)
+
+-- ---- The code tests its three energies once. The definition's are NaN from the first value on that is not finite. The answers are the same.
+abbrev pub three : Float → Float → Float → Energies
+three x y z = cond (finite x && finite y && finite z) (Values x y z) (Refused 9)
+
+checked-three : (x y z : Float) → three x y z ≡ three (checked x) (checked y) (checked z)
+checked-three nan y z = refl
+checked-three (inf s) y z = refl
+checked-three (fin s m e) nan z = refl
+checked-three (fin s m e) (inf t) z = refl
+checked-three (fin s m e) (fin t n f) nan = refl
+checked-three (fin s m e) (fin t n f) (inf u) = refl
+checked-three (fin s m e) (fin t n f) (fin u o g) = refl
+
+agree : (g d : Contributions Float) → Agree g d → three (g .hard-sphere) (g .reference) (g .attractive) ≡ finiteOr9 d
+unfolding finiteOr9
+agree g d a = checked-three (g .hard-sphere) (g .reference) (g .attractive) ∙ rw (a .hard-sphere-is, a .reference-is, a .attractive-is)
+
+-- what the code works
+abbrev worked : Case → Contributions Float
+worked c = residual-helmholtz-energy-contributions guarded (c .perturbation) (parameters guarded (c .mixture)) (state guarded (c .state))
+
+its-energies : (c : Case) → three (worked c .hard-sphere) (worked c .reference) (worked c .attractive) ≡ energiesOf c
+unfolding energiesOf
+its-energies c = agree _ _ (contributions-agree (c .perturbation) (c .mixture) (c .state))
+
+-- the three energies x, y and z that the code works for a case c, and its tests p, q and r of them
+module _ (c : Case) {x y z : Float} (are : (x ≡ worked c .hard-sphere) × (y ≡ worked c .reference) × (z ≡ worked c .attractive)) where
+  as-worked : three x y z ≡ energiesOf c
+  as-worked = rw (are .0, are .1, are .2) (its-energies c)
+
+  module _ {p q r : Bool} (p-is : p ≡ finite x) (q-is : q ≡ finite y) (r-is : r ≡ finite z) where
+    tests : {b : Bool} → p && q && r ≡ b → finite x && finite y && finite z ≡ b
+    tests h = cc
+
+    pub all-finite : p && q && r ≡ true → Values x y z ≡ energiesOf c
+    all-finite h = sym (ap (λ (b : Bool). cond b (Values x y z) (Refused 9)) (tests h)) ∙ as-worked
+
+    pub not-all-finite : p && q && r ≡ false → Refused 9 ≡ energiesOf c
+    not-all-finite h = sym (ap (λ (b : Bool). cond b (Values x y z) (Refused 9)) (tests h)) ∙ as-worked
+
+-- ---- an answer has as many bytes as its code says
+Sized : Energies → Type 0
+Sized e = length (answerBytes e) ≡ sizeOf 28 (codeOf e)
+
+sized-values : (e : Contributions Float) → Sized (finiteOr9 e)
+unfolding Sized finiteOr9 doubleBytes bytesOf
+sized-values e = go (finite (e .hard-sphere) && finite (e .reference) && finite (e .attractive))
+  where
+    go : (f : Bool) → Sized (cond f (Values (e .hard-sphere) (e .reference) (e .attractive)) (Refused 9))
+    go true = refl
+    go false = refl
+
+sized-energies : (c : Case) → Sized (energiesOf c)
+unfolding energiesOf
+sized-energies c = sized-values _
+
+pub sized : (s : List ℕ) → length (energiesAnswer s) ≡ sizeOf 28 (codeOf (answerOf s))
+unfolding Sized answerOf bytesOf
+sized s = go (eqb (refusalOf s) 0) refl
+  where
+    go : (b : Bool) → eqb (refusalOf s) 0 ≡ b → Sized (cond b (energiesOf (caseOf s)) (Refused (refusalOf s)))
+    go true e = sized-energies (caseOf s)
+    go false e = sym (ap (λ (b : Bool). cond b 28 4) e)
+
+pub size-fits : (room code : ℕ) → 4 ≤ room → sizeOf room code ≤ room
+size-fits room code h = go (eqb code 0)
+  where
+    go : (f : Bool) → cond f room 4 ≤ room
+    go true = omega arith
+    go false = omega arith
+
+pub energies-fit : (s : List ℕ) → length (energiesAnswer s) ≤ 28
+energies-fit s = subst⁻¹ (λ (n : ℕ). n ≤ 28) (sized s) (size-fits 28 (codeOf (answerOf s)) (omega arith))

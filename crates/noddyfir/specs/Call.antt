@@ -1,0 +1,46 @@
+-- The call on one record: its answer, its code, and the whole content of the answer buffer after it.
+use Prim.Native.Nat.{ℕ}
+use mathlib.Core.List.{List}
+use mathlib.Core.Bool.{_&&_, cond}
+use lib.ListN.{length}
+use lib.Dec.{eqb, ltb}
+use lib.Ieee.{Float}
+use lib.Ieee.Scale.{finite}
+use Rattle.arithmetic.specs.Doubles.{doubles}
+use Rattle.uvtheory.specs.Contributions.{Contributions}
+use Rattle.uvtheory.specs.Eos.{residual-helmholtz-energy-contributions}
+use Rattle.uvtheory.specs.Rows.{parameters, state}
+use Rattle.case_record.specs.declared.answer.Energies.{Energies}
+use Rattle.case_record.specs.declared.answer.Energies.the-variants.{Values, Refused}
+use Rattle.case_record.specs.declared.case.Case.{Case}
+use Rattle.case_record.specs.Bytes.{written}
+use Rattle.case_record.specs.Record.{caseOf}
+use Rattle.case_record.specs.Checks.{refusalOf}
+use Rattle.case_record.specs.Answer.{answerBytes}
+
+-- ---- "The answer of a case is either the three energies or one number of refusal."
+-- "hard sphere, reference, attractive, in that order". Code 9: "a value on the chosen path is not finite, or an elementary function has no rule for its argument".
+-- In the arithmetic `doubles` such a value is NaN, and so is what is worked from it: one of the three is NaN.
+unfoldable pub finiteOr9 : Contributions Float → Energies
+finiteOr9 e =
+    cond (finite (e .hard-sphere) && finite (e .reference) && finite (e .attractive)) (Values (e .hard-sphere) (e .reference) (e .attractive)) (Refused 9)
+
+unfoldable pub energiesOf : Case → Energies
+energiesOf c = finiteOr9 (residual-helmholtz-energy-contributions doubles (c .perturbation) (parameters doubles (c .mixture)) (state doubles (c .state)))
+
+-- the code of the first check that fails, or the energies of the record's case
+unfoldable pub answerOf : List ℕ → Energies
+answerOf s = cond (eqb (refusalOf s) 0) (energiesOf (caseOf s)) (Refused (refusalOf s))
+
+-- its bytes
+abbrev pub energiesAnswer : List ℕ → List ℕ
+energiesAnswer s = answerBytes (answerOf s)
+
+-- ---- The answer buffer. `room` is what it must have: 28 bytes for energies.
+-- "under 28 bytes (energies) or 52 (ends); nothing is written": code 1, or else that of the answer
+abbrev pub callCode : ℕ → ℕ → List ℕ → ℕ
+callCode room code buffer = cond (ltb (length buffer) room) 1 code
+
+-- the answer's bytes, and past them the buffer as it was
+abbrev pub callBuffer : ℕ → List ℕ → List ℕ → List ℕ
+callBuffer room answer buffer = cond (ltb (length buffer) room) buffer (written buffer answer)

@@ -1,0 +1,3 @@
+-- What document 01 says of a call and of a run.
+pub mod Call
+pub mod Run

@@ -1,0 +1,49 @@
+// The energies of one case record.
+ghost use mathlib.Core.Path.{_≡_};
+ghost use Prim.Native.Nat.{_≤_};
+ghost use Rattle.case_record.specs.Answer.{codeOf};
+ghost use Rattle.noddyfir.specs.Call.{answerOf, callBuffer, callCode, energiesAnswer, energiesOf};
+use case_record::answer::Energies;
+use case_record::answer::write_answer;
+use case_record::case::Case;
+use case_record::case::case_of;
+use case_record::checks::refusal;
+use elementary::basic::is_finite;
+use uvtheory::eos::contributions;
+
+// The energies of a case whose record the checks pass, or code 9.
+fn energies_of(c: Case) -> Energies
+    requires { ⌜ c .mixture .n ≤ 8 ⌝ }
+    ensures { λ r. ⌜ r ≡ energiesOf c ⌝ }
+{
+    let mixture = c.mixture;
+    let state = c.state;
+    let e = contributions(c.perturbation, mixture, state);
+    if is_finite(e.hard_sphere) & is_finite(e.reference) & is_finite(e.attractive) {
+        return Energies::Values(e.hard_sphere, e.reference, e.attractive);
+    }
+    Energies::Refused(9)
+}
+
+// The answer to a record.
+fn answer_of(record: &[u8]) -> Energies
+    ensures { λ r. ⌜ r ≡ answerOf (now («record» .entry)) ⌝ }
+{
+    let code = refusal(record);
+    if code != 0 {
+        return Energies::Refused(code);
+    }
+    energies_of(case_of(record))
+}
+
+// Writes the answer to a record at the start of `answer`, and returns its code. Under 28 bytes nothing is written.
+#[no_mangle]
+pub extern "C" fn energies(record: &[u8], answer: &mut [u8]) -> u8
+    ensures { λ r. ⌜ (r ≡ callCode 28 (codeOf (answerOf (now («record» .entry)))) (now (answer .entry))) × (now (answer .exit) ≡ callBuffer 28 (energiesAnswer (now («record» .entry))) (now (answer .entry))) ⌝ }
+{
+    if answer.len() < 28 {
+        return 1;
+    }
+    let e = answer_of(record);
+    write_answer(answer, e)
+}

@@ -1,0 +1,7 @@
+// The public calls: the energies of one case, and of a run of cases.
+pub mod call;
+pub mod run;
+
+pub use call::energies;
+pub use run::Run;
+pub use run::run_energies;

@@ -1,0 +1,93 @@
+// A run over case records, one after the other.
+ghost use mathlib.Core.Path.{_≡_};
+ghost use Prim.Native.Nat.{_≤_};
+ghost use lib.ListN.{length};
+ghost use Rattle.noddyfir.specs.Call.{energiesAnswer};
+ghost use Rattle.noddyfir.specs.Run.{nextAt, runOf, sizeOf};
+use crate::call::energies;
+use case_record::bytes::big_endian2;
+
+// Records done, bytes read, bytes written, and why the run stopped: 0 input used up, 2 broken tail, 1 no room for an answer.
+#[repr(C)]
+pub struct Run {
+    pub records: usize,
+    pub read: usize,
+    pub written: usize,
+    pub reason: u8,
+}
+
+// What follows in the input: nothing, a broken tail, or a whole record of so many bytes.
+pub enum Next {
+    UsedUp,
+    Broken,
+    Whole(usize),
+}
+
+// What follows at a position of the records.
+fn next_at(records: &[u8], at: usize) -> Next
+    ensures { λ r. ⌜ r ≡ nextAt (now (records .entry)) at ⌝ }
+{
+    if records.len() <= at {
+        return Next::UsedUp;
+    }
+    let left = records.len() - at;
+    if left < 2 {
+        return Next::Broken;
+    }
+    let size = 2 + big_endian2(records, at);
+    if size > left {
+        return Next::Broken;
+    }
+    Next::Whole(size)
+}
+
+// The run that stops here.
+fn stopped(records: usize, read: usize, written: usize, reason: u8) -> Run
+    ensures { λ r. ⌜ r ≡ record { records = records; read = read; written = written; reason = reason } ⌝ }
+{
+    Run {
+        records,
+        read,
+        written,
+        reason,
+    }
+}
+
+// How many bytes an answer with this code has.
+fn answer_size(room: usize, code: u8) -> usize
+    requires { ⌜ 4 ≤ room ⌝ }
+    ensures { λ r. ⌜ (r ≡ sizeOf room code) × (r ≤ room) ⌝ }
+{
+    if code == 0 { room } else { 4 }
+}
+
+// Answers the records one after the other: each answer is written where the one before it ended.
+#[no_mangle]
+pub extern "C" fn run_energies(records: &[u8], answers: &mut [u8]) -> Run
+    ensures { λ r. ⌜ (r ≡ runOf 28 energiesAnswer (now (records .entry)) (now (answers .entry)) .run) × (now (answers .exit) ≡ runOf 28 energiesAnswer (now (records .entry)) (now (answers .entry)) .answers) ⌝ }
+    ensures within { λ r. ⌜ (r .read ≤ length (now (records .entry))) × (r .written ≤ length (now (answers .exit))) ⌝ }
+{
+    let mut done = 0;
+    let mut read = 0;
+    let mut written = 0;
+    loop {
+        match next_at(records, read) {
+            Next::UsedUp => {
+                return stopped(done, read, written, 0);
+            }
+            Next::Broken => {
+                return stopped(done, read, written, 2);
+            }
+            Next::Whole(size) => {
+                if answers.len() - written < 28 {
+                    return stopped(done, read, written, 1);
+                }
+                let end = read + size;
+                let code = energies(&records[read..end], &mut answers[written..]);
+                written += answer_size(28, code);
+                read = end;
+                done += 1;
+            }
+        }
+    }
+}
