@@ -13,3 +13,4 @@ pub mod Tests
 pub mod Exact
 pub mod Both
 pub mod Agreement
+pub mod Rows
