@@ -14,3 +14,4 @@ pub mod Exact
 pub mod Both
 pub mod Agreement
 pub mod Rows
+pub mod Example
