@@ -13,3 +13,5 @@ pub mod Tests
 pub mod Exact
 pub mod Both
 pub mod Agreement
+pub mod Rows
+pub mod Example
