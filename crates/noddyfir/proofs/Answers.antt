@@ -12,6 +12,8 @@ use lib.Ieee.Scale.{finite}
 use Rattle.arithmetic.specs.Doubles.{checked, doubles, guarded}
 use Rattle.uvtheory.specs.Contributions.{Contributions}
 use Rattle.uvtheory.specs.Eos.{residual-helmholtz-energy-contributions}
+use Rattle.uvtheory.specs.declared.contributions.Contributions.{Contributions as Held}
+use Rattle.uvtheory.specs.Held.{ContributionsOf}
 use Rattle.uvtheory.specs.Rows.{parameters, state}
 use Rattle.uvtheory.proofs.Agreement.{Agree, contributions-agree}
 use Rattle.case_record.specs.declared.answer.Energies.{Energies}
@@ -58,10 +60,19 @@ its-energies : (c : Case) → three (worked c .hard-sphere) (worked c .reference
 unfolding energiesOf
 its-energies c = agree _ _ (contributions-agree (c .perturbation) (c .mixture) (c .state))
 
--- the three energies x, y and z that the code works for a case c, and its tests p, q and r of them
-module _ (c : Case) {x y z : Float} (are : (x ≡ worked c .hard-sphere) × (y ≡ worked c .reference) × (z ≡ worked c .attractive)) where
+-- the three energies e that the code works for a case c, and its tests p, q and r of them
+module _ (c : Case) {e : Held} (are : ContributionsOf e (worked c)) where
+  abbrev x : Float
+  x = e .«hard_sphere»
+
+  abbrev y : Float
+  y = e .reference
+
+  abbrev z : Float
+  z = e .attractive
+
   as-worked : three x y z ≡ energiesOf c
-  as-worked = rw (are .0, are .1, are .2) (its-energies c)
+  as-worked = rw (are .hard-sphere-is, are .reference-is, are .attractive-is) (its-energies c)
 
   module _ {p q r : Bool} (p-is : p ≡ finite x) (q-is : q ≡ finite y) (r-is : r ≡ finite z) where
     tests : {b : Bool} → p && q && r ≡ b → finite x && finite y && finite z ≡ b
