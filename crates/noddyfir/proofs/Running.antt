@@ -164,8 +164,8 @@ module _ (room : ℕ) (answer : List ℕ → List ℕ) where
       let q = ap (λ (o : Outcome). o .run .read) (at-whole turns s b e h) in
       omega arith
 
-  pub progress : (s b : List ℕ) → room ≤ length b → runOf room answer s b .run .reason ≡ 1 → 0 < runOf room answer s b .run .read
-  progress s b h f = moves (length s) s b (nextOf s) refl h f
+  pub progress : (s b : List ℕ) (r : Run) → r ≡ runOf room answer s b .run → r .reason ≡ 1 → room ≤ length b → 0 < r .read
+  progress s b r e f h = rw e (moves (length s) s b (nextOf s) refl h (ap (λ (r : Run). r .reason) (sym e) ∙ f))
 
   -- the turns are not used up while bytes are left
   pub turns-left : {s b₀ : List ℕ} {done read filled : ℕ} {b : List ℕ} → Going s b₀ done read filled b → 0 < length (drop read s) → 0 < length s - done
