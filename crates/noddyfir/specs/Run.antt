@@ -65,6 +65,6 @@ runFrom room answer (suc turns) s buffer =
 abbrev pub runOf : ℕ → (List ℕ → List ℕ) → List ℕ → List ℕ → Outcome
 runOf room answer s buffer = runFrom room answer (length s) s buffer
 
--- how many bytes an answer with this code has: "A refused record takes its four bytes and the run goes on."
+-- how many bytes an answer with this code has: at code 0 all of `room`, and "A refused record takes its four bytes and the run goes on."
 abbrev pub sizeOf : ℕ → ℕ → ℕ
 sizeOf room code = cond (eqb code 0) room 4

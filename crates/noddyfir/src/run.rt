@@ -61,7 +61,8 @@ fn answer_size(room: usize, code: u8) -> usize
     if code == 0 { room } else { 4 }
 }
 
-// Answers the records one after the other: each answer is written where the one before it ended.
+// Answers the records one after the other: each answer is written where the one before it ended. `within` follows from the outcome and is stated
+// for callers, who lend the rest of the records and read the answers.
 #[no_mangle]
 pub extern "C" fn run_energies(records: &[u8], answers: &mut [u8]) -> Run
     ensures { λ r. ⌜ (r ≡ runOf 28 energiesAnswer (now (records .entry)) (now (answers .entry)) .run) × (now (answers .exit) ≡ runOf 28 energiesAnswer (now (records .entry)) (now (answers .entry)) .answers) ⌝ }
