@@ -52,7 +52,10 @@ pub square-le : (n : ℕ) → n ≤ 8 → n * n ≤ 64
 square-le n h = mul-le-mul h h
 
 -- all that the bounds of an access to a pair, and to its mirror image, follow from
-pub pair-within : (n k : ℕ) → n ≤ 8 → k < n * n → (n * n ≤ 64) × (k / n < n) × (k % n < n) × (k % n * n + k / n < n * n)
+abbrev pub Bounds : ℕ → ℕ → Type 0
+Bounds n k = (n * n ≤ 64) × (k / n < n) × (k % n < n) × (k % n * n + k / n < n * n)
+
+pub pair-within : (n k : ℕ) → n ≤ 8 → k < n * n → Bounds n k
 pair-within n k h l =
     let c = column-of n k l in
     let r = row-of n k l in

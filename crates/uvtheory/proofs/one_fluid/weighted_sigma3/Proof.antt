@@ -9,7 +9,7 @@ use Rattle.arithmetic.specs.Doubles.{guarded}
 use Rattle.uvtheory.specs.Rows.{row, matrix}
 use Rattle.uvtheory.specs.Literals as N
 use Rattle.uvtheory.specs.OneFluid as F
-use Rattle.uvtheory.proofs.Loops.{sum-step, row-of, column-of, at-pair, square-le}
+use Rattle.uvtheory.proofs.Loops.{sum-step, at-pair, square-le, Bounds, pair-within}
 use Rattle.uvtheory.proofs.one_fluid.weighted_sigma3.Statement.{statement}
 use Rattle.uvtheory.proofs.one_fluid.weighted_sigma3.Tie as tie
 
@@ -18,6 +18,10 @@ Inv-loop n x sigma-ij sum₀ k₀ sum k = (k ≤ n * n) × (sum ≡ guarded .sum
 
 abbrev μ-loop : tie.MeasureT-loop
 μ-loop n x sigma-ij sum₀ k₀ sum k = n * n - k
+
+-- what the bounds of every access follow from
+inside : (c : tie.In-loop Inv-loop μ-loop) → Bounds (c .before .before .args .n) (c .before .loop .k)
+inside c = pair-within (c .before .before .args .n) (c .before .loop .k) (c .before .before .pre) (omega arith)
 
 loop-holds : tie.Need-loop-holds Inv-loop μ-loop
 unfolding sumBy
@@ -35,4 +39,4 @@ unfolding F.pair-mean
 returns c = let e : c .before .loop .k ≡ c .before .before .args .n * c .before .before .args .n = omega arith in c .before .loop .inv .1 ∙ ap (λ (m : ℕ). guarded .sum m (λ l. guarded .mul (guarded .mul (row (c .before .before .args .x .now) (l / c .before .before .args .n)) (row (c .before .before .args .x .now) (l % c .before .before .args .n))) (guarded .powi (matrix (c .before .before .args .n) (c .before .before .args .sigma-ij .now) (l / c .before .before .args .n) (l % c .before .before .args .n)) 3))) e
 
 pub weighted-sigma3-spec : {M : Type 1} → statement M
-weighted-sigma3-spec = tie.close (tie.spec Inv-loop μ-loop loop-holds (λ c. omega (arith, square-le (c .before .args .n) (c .before .pre))) (λ c. let h : c .before .loop .k < c .before .before .args .n * c .before .before .args .n = omega arith in omega (arith, square-le (c .before .before .args .n) (c .before .before .pre), row-of (c .before .before .args .n) (c .before .loop .k) h, column-of (c .before .before .args .n) (c .before .loop .k) h)) (λ c. let h : c .before .loop .k < c .before .before .args .n * c .before .before .args .n = omega arith in omega (arith, square-le (c .before .before .args .n) (c .before .before .pre), row-of (c .before .before .args .n) (c .before .loop .k) h, column-of (c .before .before .args .n) (c .before .loop .k) h)) (λ c. let h : c .before .before .loop .k < c .before .before .before .args .n * c .before .before .before .args .n = omega arith in omega (arith, square-le (c .before .before .before .args .n) (c .before .before .before .pre), row-of (c .before .before .before .args .n) (c .before .before .loop .k) h, column-of (c .before .before .before .args .n) (c .before .before .loop .k) h)) (λ c. let h : c .before .before .loop .k < c .before .before .before .args .n * c .before .before .before .args .n = omega arith in omega (arith, square-le (c .before .before .before .args .n) (c .before .before .before .pre), row-of (c .before .before .before .args .n) (c .before .before .loop .k) h, column-of (c .before .before .before .args .n) (c .before .before .loop .k) h)) (λ c. let h : c .before .before .loop .k < c .before .before .before .args .n * c .before .before .before .args .n = omega arith in omega (arith, square-le (c .before .before .before .args .n) (c .before .before .before .pre), row-of (c .before .before .before .args .n) (c .before .before .loop .k) h, column-of (c .before .before .before .args .n) (c .before .before .loop .k) h)) (λ c. let h : c .before .before .before .loop .k < c .before .before .before .before .args .n * c .before .before .before .before .args .n = omega arith in omega (arith, square-le (c .before .before .before .before .args .n) (c .before .before .before .before .pre), row-of (c .before .before .before .before .args .n) (c .before .before .before .loop .k) h, column-of (c .before .before .before .before .args .n) (c .before .before .before .loop .k) h)) (λ c. let h : c .before .before .before .loop .k < c .before .before .before .before .args .n * c .before .before .before .before .args .n = omega arith in omega (arith, square-le (c .before .before .before .before .args .n) (c .before .before .before .before .pre), row-of (c .before .before .before .before .args .n) (c .before .before .before .loop .k) h, column-of (c .before .before .before .before .args .n) (c .before .before .before .loop .k) h)) (λ c. let h : c .before .before .before .loop .k < c .before .before .before .before .args .n * c .before .before .before .before .args .n = omega arith in omega (arith, square-le (c .before .before .before .before .args .n) (c .before .before .before .before .pre), row-of (c .before .before .before .before .args .n) (c .before .before .before .loop .k) h, column-of (c .before .before .before .before .args .n) (c .before .before .before .loop .k) h)) (λ c. let h : c .before .before .before .before .loop .k < c .before .before .before .before .before .args .n * c .before .before .before .before .before .args .n = omega arith in omega (arith, square-le (c .before .before .before .before .before .args .n) (c .before .before .before .before .before .pre), row-of (c .before .before .before .before .before .args .n) (c .before .before .before .before .loop .k) h, column-of (c .before .before .before .before .before .args .n) (c .before .before .before .before .loop .k) h)) (λ c. search needs) loop-again returns)
+weighted-sigma3-spec = tie.close (tie.spec Inv-loop μ-loop loop-holds (λ c. omega (arith, square-le (c .before .args .n) (c .before .pre))) (λ c. omega (arith, inside c)) (λ c. omega (arith, inside c)) (λ c. omega (arith, inside (c .before))) (λ c. omega (arith, inside (c .before))) (λ c. omega (arith, inside (c .before))) (λ c. omega (arith, inside (c .before .before))) (λ c. omega (arith, inside (c .before .before))) (λ c. omega (arith, inside (c .before .before))) (λ c. omega (arith, inside (c .before .before .before))) (λ c. search needs) loop-again returns)

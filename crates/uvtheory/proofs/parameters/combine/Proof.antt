@@ -5,7 +5,7 @@ use native.Mathlib.Omega.{arith}
 use borrow.Author.Needs.{needs}
 use Rattle.arithmetic.specs.Doubles.{guarded}
 use Rattle.uvtheory.specs.Rows.{parameters}
-use Rattle.uvtheory.proofs.Loops.{row-of, column-of, pair-within, square-le, Filled, one-more, mirror}
+use Rattle.uvtheory.proofs.Loops.{row-of, column-of, pair-within, square-le, Filled, one-more, mirror, Bounds}
 use Rattle.uvtheory.proofs.parameters.combine.Statement.{statement}
 use Rattle.uvtheory.proofs.parameters.combine.Tie as tie
 
@@ -19,6 +19,10 @@ Inv-loop m n rep-ij₀ att-ij₀ sigma-ij₀ eps-k-ij₀ k₀ rep-ij att-ij sigm
 
 abbrev μ-loop : tie.MeasureT-loop
 μ-loop m n rep-ij₀ att-ij₀ sigma-ij₀ eps-k-ij₀ k₀ rep-ij att-ij sigma-ij eps-k-ij k = m .n * m .n - k
+
+-- what the bounds of every access follow from
+inside : (c : tie.In-loop Inv-loop μ-loop) → Bounds (c .before .before .args .m .n) (c .before .loop .k)
+inside c = pair-within (c .before .before .args .m .n) (c .before .loop .k) (c .before .before .pre) (omega arith)
 
 loop-holds : tie.Need-loop-holds Inv-loop μ-loop
 loop-holds c = (omega arith, (refl, λ i h. absurd (omega arith)), (refl, λ i h. absurd (omega arith)), (refl, λ i h. absurd (omega arith)), (refl, λ i h. absurd (omega arith)))
@@ -62,4 +66,4 @@ returns c =
     }
 
 pub combine-spec : {M : Type 1} → statement M
-combine-spec = tie.close (tie.spec Inv-loop μ-loop loop-holds (λ c. omega (arith, square-le (c .before .args .m .n) (c .before .pre))) (λ c. let h : c .before .loop .k < c .before .before .args .m .n * c .before .before .args .m .n = omega arith in omega (arith, pair-within (c .before .before .args .m .n) (c .before .loop .k) (c .before .before .pre) h)) (λ c. let h : c .before .loop .k < c .before .before .args .m .n * c .before .before .args .m .n = omega arith in omega (arith, pair-within (c .before .before .args .m .n) (c .before .loop .k) (c .before .before .pre) h)) (λ c. let h : c .before .loop .k < c .before .before .args .m .n * c .before .before .args .m .n = omega arith in omega (arith, pair-within (c .before .before .args .m .n) (c .before .loop .k) (c .before .before .pre) h)) (λ c. let h : c .before .loop .k < c .before .before .args .m .n * c .before .before .args .m .n = omega arith in omega (arith, pair-within (c .before .before .args .m .n) (c .before .loop .k) (c .before .before .pre) h)) (λ c. let h : c .before .loop .k < c .before .before .args .m .n * c .before .before .args .m .n = omega arith in omega (arith, pair-within (c .before .before .args .m .n) (c .before .loop .k) (c .before .before .pre) h)) (λ c. let h : c .before .loop .k < c .before .before .args .m .n * c .before .before .args .m .n = omega arith in omega (arith, pair-within (c .before .before .args .m .n) (c .before .loop .k) (c .before .before .pre) h)) (λ c. let h : c .before .loop .k < c .before .before .args .m .n * c .before .before .args .m .n = omega arith in omega (arith, pair-within (c .before .before .args .m .n) (c .before .loop .k) (c .before .before .pre) h)) (λ c. let h : c .before .loop .k < c .before .before .args .m .n * c .before .before .args .m .n = omega arith in omega (arith, pair-within (c .before .before .args .m .n) (c .before .loop .k) (c .before .before .pre) h)) (λ c. let h : c .before .loop .k < c .before .before .args .m .n * c .before .before .args .m .n = omega arith in omega (arith, pair-within (c .before .before .args .m .n) (c .before .loop .k) (c .before .before .pre) h)) (λ c. let h : c .before .loop .k < c .before .before .args .m .n * c .before .before .args .m .n = omega arith in omega (arith, pair-within (c .before .before .args .m .n) (c .before .loop .k) (c .before .before .pre) h)) (λ c. let h : c .before .loop .k < c .before .before .args .m .n * c .before .before .args .m .n = omega arith in omega (arith, pair-within (c .before .before .args .m .n) (c .before .loop .k) (c .before .before .pre) h)) (λ c. let h : c .before .loop .k < c .before .before .args .m .n * c .before .before .args .m .n = omega arith in omega (arith, pair-within (c .before .before .args .m .n) (c .before .loop .k) (c .before .before .pre) h)) pair-at-requires (λ c. let h : c .before .before .loop .k < c .before .before .before .args .m .n * c .before .before .before .args .m .n = omega arith in omega (arith, pair-within (c .before .before .before .args .m .n) (c .before .before .loop .k) (c .before .before .before .pre) h)) (λ c. let h : c .before .before .loop .k < c .before .before .before .args .m .n * c .before .before .before .args .m .n = omega arith in omega (arith, pair-within (c .before .before .before .args .m .n) (c .before .before .loop .k) (c .before .before .before .pre) h)) (λ c. let h : c .before .before .loop .k < c .before .before .before .args .m .n * c .before .before .before .args .m .n = omega arith in omega (arith, pair-within (c .before .before .before .args .m .n) (c .before .before .loop .k) (c .before .before .before .pre) h)) (λ c. let h : c .before .before .loop .k < c .before .before .before .args .m .n * c .before .before .before .args .m .n = omega arith in omega (arith, pair-within (c .before .before .before .args .m .n) (c .before .before .loop .k) (c .before .before .before .pre) h)) (λ c. let h : c .before .before .loop .k < c .before .before .before .args .m .n * c .before .before .before .args .m .n = omega arith in omega (arith, pair-within (c .before .before .before .args .m .n) (c .before .before .loop .k) (c .before .before .before .pre) h)) (λ c. let h : c .before .before .loop .k < c .before .before .before .args .m .n * c .before .before .before .args .m .n = omega arith in omega (arith, pair-within (c .before .before .before .args .m .n) (c .before .before .loop .k) (c .before .before .before .pre) h)) (λ c. let h : c .before .before .loop .k < c .before .before .before .args .m .n * c .before .before .before .args .m .n = omega arith in omega (arith, pair-within (c .before .before .before .args .m .n) (c .before .before .loop .k) (c .before .before .before .pre) h)) (λ c. let h : c .before .before .loop .k < c .before .before .before .args .m .n * c .before .before .before .args .m .n = omega arith in omega (arith, pair-within (c .before .before .before .args .m .n) (c .before .before .loop .k) (c .before .before .before .pre) h)) (λ c. let h : c .before .before .loop .k < c .before .before .before .args .m .n * c .before .before .before .args .m .n = omega arith in omega (arith, pair-within (c .before .before .before .args .m .n) (c .before .before .loop .k) (c .before .before .before .pre) h)) (λ c. search needs) loop-again returns)
+combine-spec = tie.close (tie.spec Inv-loop μ-loop loop-holds (λ c. omega (arith, square-le (c .before .args .m .n) (c .before .pre))) (λ c. omega (arith, inside c)) (λ c. omega (arith, inside c)) (λ c. omega (arith, inside c)) (λ c. omega (arith, inside c)) (λ c. omega (arith, inside c)) (λ c. omega (arith, inside c)) (λ c. omega (arith, inside c)) (λ c. omega (arith, inside c)) (λ c. omega (arith, inside c)) (λ c. omega (arith, inside c)) (λ c. omega (arith, inside c)) (λ c. omega (arith, inside c)) pair-at-requires (λ c. omega (arith, inside (c .before))) (λ c. omega (arith, inside (c .before))) (λ c. omega (arith, inside (c .before))) (λ c. omega (arith, inside (c .before))) (λ c. omega (arith, inside (c .before))) (λ c. omega (arith, inside (c .before))) (λ c. omega (arith, inside (c .before))) (λ c. omega (arith, inside (c .before))) (λ c. omega (arith, inside (c .before))) (λ c. search needs) loop-again returns)

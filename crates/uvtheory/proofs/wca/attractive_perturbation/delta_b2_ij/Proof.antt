@@ -9,7 +9,7 @@ use Rattle.arithmetic.specs.Doubles.{guarded}
 use Rattle.uvtheory.specs.Rows.{row, matrix}
 use Rattle.uvtheory.specs.Parameters.{mie-prefactor}
 use Rattle.uvtheory.specs.Wca.AttractivePerturbation as F
-use Rattle.uvtheory.proofs.Loops.{at-pair, pair-within, square-le, Filled, one-more, mirror}
+use Rattle.uvtheory.proofs.Loops.{at-pair, pair-within, square-le, Filled, one-more, mirror, Bounds}
 use Rattle.uvtheory.proofs.wca.attractive_perturbation.delta_b2_ij.Statement.{statement}
 use Rattle.uvtheory.proofs.wca.attractive_perturbation.delta_b2_ij.Tie as tie
 
@@ -23,6 +23,10 @@ Inv-loop n t rep-ij att-ij eps-k-ij q rm b2₀ k₀ b2 k = (k ≤ n * n) × Fill
 
 abbrev μ-loop : tie.MeasureT-loop
 μ-loop n t rep-ij att-ij eps-k-ij q rm b2₀ k₀ b2 k = n * n - k
+
+-- what the bounds of every access follow from
+inside : (c : tie.In-loop Inv-loop μ-loop) → Bounds (c .before .before .before .before .before .before .before .args .n) (c .before .loop .k)
+inside c = pair-within (c .before .before .before .before .before .before .before .args .n) (c .before .loop .k) (c .before .before .before .before .before .before .before .pre .0) (omega arith)
 
 loop-holds : tie.Need-loop-holds Inv-loop μ-loop
 loop-holds c = (omega arith, (refl, λ i h. absurd (omega arith)))
@@ -49,4 +53,4 @@ returns : tie.Need-returns Inv-loop μ-loop
 returns c = λ k h. c .before .loop .inv .1 .1 k (omega arith)
 
 pub delta-b2-ij-spec : {M : Type 1} → statement M
-delta-b2-ij-spec = tie.close (tie.spec Inv-loop μ-loop loop-holds (λ c. omega (arith, square-le (c .before .before .before .before .before .before .args .n) (c .before .before .before .before .before .before .pre .0))) (λ c. let n = c .before .before .before .before .before .before .before .args .n in let h : c .before .loop .k < n * n = omega arith in omega (arith, pair-within n (c .before .loop .k) (c .before .before .before .before .before .before .before .pre .0) h)) (λ c. let n = c .before .before .before .before .before .before .before .args .n in let h : c .before .loop .k < n * n = omega arith in omega (arith, pair-within n (c .before .loop .k) (c .before .before .before .before .before .before .before .pre .0) h)) (λ c. let n = c .before .before .before .before .before .before .before .args .n in let h : c .before .loop .k < n * n = omega arith in omega (arith, pair-within n (c .before .loop .k) (c .before .before .before .before .before .before .before .pre .0) h)) (λ c. let n = c .before .before .before .before .before .before .before .args .n in let h : c .before .loop .k < n * n = omega arith in omega (arith, pair-within n (c .before .loop .k) (c .before .before .before .before .before .before .before .pre .0) h)) (λ c. let n = c .before .before .before .before .before .before .before .args .n in let h : c .before .loop .k < n * n = omega arith in omega (arith, pair-within n (c .before .loop .k) (c .before .before .before .before .before .before .before .pre .0) h)) (λ c. let n = c .before .before .before .before .before .before .before .args .n in let h : c .before .loop .k < n * n = omega arith in omega (arith, pair-within n (c .before .loop .k) (c .before .before .before .before .before .before .before .pre .0) h)) (λ c. let n = c .before .before .before .before .before .before .before .args .n in let h : c .before .loop .k < n * n = omega arith in omega (arith, pair-within n (c .before .loop .k) (c .before .before .before .before .before .before .before .pre .0) h)) (λ c. let n = c .before .before .before .before .before .before .before .args .n in let h : c .before .loop .k < n * n = omega arith in omega (arith, pair-within n (c .before .loop .k) (c .before .before .before .before .before .before .before .pre .0) h)) (λ c. let n = c .before .before .before .before .before .before .before .args .n in let h : c .before .loop .k < n * n = omega arith in omega (arith, pair-within n (c .before .loop .k) (c .before .before .before .before .before .before .before .pre .0) h)) (λ c. let n = c .before .before .before .before .before .before .before .args .n in let h : c .before .loop .k < n * n = omega arith in omega (arith, pair-within n (c .before .loop .k) (c .before .before .before .before .before .before .before .pre .0) h)) (λ c. let n = c .before .before .before .before .before .before .before .args .n in let h : c .before .loop .k < n * n = omega arith in omega (arith, pair-within n (c .before .loop .k) (c .before .before .before .before .before .before .before .pre .0) h)) (λ c. let n = c .before .before .before .before .before .before .before .args .n in let h : c .before .loop .k < n * n = omega arith in omega (arith, pair-within n (c .before .loop .k) (c .before .before .before .before .before .before .before .pre .0) h)) (λ c. let n = c .before .before .before .before .before .before .before .args .n in let h : c .before .loop .k < n * n = omega arith in omega (arith, pair-within n (c .before .loop .k) (c .before .before .before .before .before .before .before .pre .0) h)) (λ c. let n = c .before .before .before .before .before .before .before .args .n in let h : c .before .loop .k < n * n = omega arith in omega (arith, pair-within n (c .before .loop .k) (c .before .before .before .before .before .before .before .pre .0) h)) (λ c. let n = c .before .before .before .before .before .before .before .args .n in let h : c .before .loop .k < n * n = omega arith in omega (arith, pair-within n (c .before .loop .k) (c .before .before .before .before .before .before .before .pre .0) h)) (λ c. let n = c .before .before .before .before .before .before .before .args .n in let h : c .before .loop .k < n * n = omega arith in omega (arith, pair-within n (c .before .loop .k) (c .before .before .before .before .before .before .before .pre .0) h)) delta-b2-at-requires (λ c. let n = c .before .before .before .before .before .before .before .before .args .n in let h : c .before .before .loop .k < n * n = omega arith in omega (arith, pair-within n (c .before .before .loop .k) (c .before .before .before .before .before .before .before .before .pre .0) h)) (λ c. let n = c .before .before .before .before .before .before .before .before .args .n in let h : c .before .before .loop .k < n * n = omega arith in omega (arith, pair-within n (c .before .before .loop .k) (c .before .before .before .before .before .before .before .before .pre .0) h)) (λ c. let n = c .before .before .before .before .before .before .before .before .args .n in let h : c .before .before .loop .k < n * n = omega arith in omega (arith, pair-within n (c .before .before .loop .k) (c .before .before .before .before .before .before .before .before .pre .0) h)) (λ c. search needs) loop-again returns)
+delta-b2-ij-spec = tie.close (tie.spec Inv-loop μ-loop loop-holds (λ c. omega (arith, square-le (c .before .before .before .before .before .before .args .n) (c .before .before .before .before .before .before .pre .0))) (λ c. omega (arith, inside c)) (λ c. omega (arith, inside c)) (λ c. omega (arith, inside c)) (λ c. omega (arith, inside c)) (λ c. omega (arith, inside c)) (λ c. omega (arith, inside c)) (λ c. omega (arith, inside c)) (λ c. omega (arith, inside c)) (λ c. omega (arith, inside c)) (λ c. omega (arith, inside c)) (λ c. omega (arith, inside c)) (λ c. omega (arith, inside c)) (λ c. omega (arith, inside c)) (λ c. omega (arith, inside c)) (λ c. omega (arith, inside c)) (λ c. omega (arith, inside c)) delta-b2-at-requires (λ c. omega (arith, inside (c .before))) (λ c. omega (arith, inside (c .before))) (λ c. omega (arith, inside (c .before))) (λ c. search needs) loop-again returns)

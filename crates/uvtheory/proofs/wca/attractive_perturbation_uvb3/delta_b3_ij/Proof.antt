@@ -9,7 +9,7 @@ use Rattle.arithmetic.specs.Doubles.{guarded}
 use Rattle.uvtheory.specs.Rows.{row, matrix}
 use Rattle.uvtheory.specs.Literals as N
 use Rattle.uvtheory.specs.Wca.AttractivePerturbationUvb3 as F
-use Rattle.uvtheory.proofs.Loops.{at-pair, pair-within, square-le, Filled, one-more, mirror}
+use Rattle.uvtheory.proofs.Loops.{at-pair, pair-within, square-le, Filled, one-more, Bounds}
 use Rattle.uvtheory.proofs.wca.attractive_perturbation_uvb3.delta_b3_ij.Statement.{statement}
 use Rattle.uvtheory.proofs.wca.attractive_perturbation_uvb3.delta_b3_ij.Tie as tie
 
@@ -23,6 +23,10 @@ Inv-loop n t d sigma rep-ij eps-k-ij q rm b3₀ k₀ b3 k = (k ≤ n * n) × Fil
 
 abbrev μ-loop : tie.MeasureT-loop
 μ-loop n t d sigma rep-ij eps-k-ij q rm b3₀ k₀ b3 k = n * n - k
+
+-- what the bounds of every access follow from
+inside : (c : tie.In-loop Inv-loop μ-loop) → Bounds (c .before .before .before .before .before .before .args .n) (c .before .loop .k)
+inside c = pair-within (c .before .before .before .before .before .before .args .n) (c .before .loop .k) (c .before .before .before .before .before .before .pre) (omega arith)
 
 loop-holds : tie.Need-loop-holds Inv-loop μ-loop
 loop-holds c = (omega arith, (refl, λ i h. absurd (omega arith)))
@@ -41,4 +45,4 @@ returns : tie.Need-returns Inv-loop μ-loop
 returns c = λ k h. c .before .loop .inv .1 .1 k (omega arith)
 
 pub delta-b3-ij-spec : {M : Type 1} → statement M
-delta-b3-ij-spec = tie.close (tie.spec Inv-loop μ-loop loop-holds (λ c. omega (arith, square-le (c .before .before .before .before .before .args .n) (c .before .before .before .before .before .pre))) (λ c. let n = c .before .before .before .before .before .before .args .n in let h : c .before .loop .k < n * n = omega arith in omega (arith, pair-within n (c .before .loop .k) (c .before .before .before .before .before .before .pre) h)) (λ c. let n = c .before .before .before .before .before .before .args .n in let h : c .before .loop .k < n * n = omega arith in omega (arith, pair-within n (c .before .loop .k) (c .before .before .before .before .before .before .pre) h)) (λ c. let n = c .before .before .before .before .before .before .args .n in let h : c .before .loop .k < n * n = omega arith in omega (arith, pair-within n (c .before .loop .k) (c .before .before .before .before .before .before .pre) h)) (λ c. let n = c .before .before .before .before .before .before .args .n in let h : c .before .loop .k < n * n = omega arith in omega (arith, pair-within n (c .before .loop .k) (c .before .before .before .before .before .before .pre) h)) (λ c. let n = c .before .before .before .before .before .before .args .n in let h : c .before .loop .k < n * n = omega arith in omega (arith, pair-within n (c .before .loop .k) (c .before .before .before .before .before .before .pre) h)) (λ c. let n = c .before .before .before .before .before .before .args .n in let h : c .before .loop .k < n * n = omega arith in omega (arith, pair-within n (c .before .loop .k) (c .before .before .before .before .before .before .pre) h)) (λ c. let n = c .before .before .before .before .before .before .args .n in let h : c .before .loop .k < n * n = omega arith in omega (arith, pair-within n (c .before .loop .k) (c .before .before .before .before .before .before .pre) h)) (λ c. let n = c .before .before .before .before .before .before .args .n in let h : c .before .loop .k < n * n = omega arith in omega (arith, pair-within n (c .before .loop .k) (c .before .before .before .before .before .before .pre) h)) (λ c. let n = c .before .before .before .before .before .before .args .n in let h : c .before .loop .k < n * n = omega arith in omega (arith, pair-within n (c .before .loop .k) (c .before .before .before .before .before .before .pre) h)) (λ c. let n = c .before .before .before .before .before .before .args .n in let h : c .before .loop .k < n * n = omega arith in omega (arith, pair-within n (c .before .loop .k) (c .before .before .before .before .before .before .pre) h)) (λ c. let n = c .before .before .before .before .before .before .args .n in let h : c .before .loop .k < n * n = omega arith in omega (arith, pair-within n (c .before .loop .k) (c .before .before .before .before .before .before .pre) h)) (λ c. let n = c .before .before .before .before .before .before .args .n in let h : c .before .loop .k < n * n = omega arith in omega (arith, pair-within n (c .before .loop .k) (c .before .before .before .before .before .before .pre) h)) (λ c. let n = c .before .before .before .before .before .before .before .args .n in let h : c .before .before .loop .k < n * n = omega arith in omega (arith, pair-within n (c .before .before .loop .k) (c .before .before .before .before .before .before .before .pre) h)) (λ c. let n = c .before .before .before .before .before .before .before .args .n in let h : c .before .before .loop .k < n * n = omega arith in omega (arith, pair-within n (c .before .before .loop .k) (c .before .before .before .before .before .before .before .pre) h)) (λ c. let n = c .before .before .before .before .before .before .before .before .args .n in let h : c .before .before .before .loop .k < n * n = omega arith in omega (arith, pair-within n (c .before .before .before .loop .k) (c .before .before .before .before .before .before .before .before .pre) h)) (λ c. let n = c .before .before .before .before .before .before .before .before .args .n in let h : c .before .before .before .loop .k < n * n = omega arith in omega (arith, pair-within n (c .before .before .before .loop .k) (c .before .before .before .before .before .before .before .before .pre) h)) (λ c. let n = c .before .before .before .before .before .before .before .before .before .args .n in let h : c .before .before .before .before .loop .k < n * n = omega arith in omega (arith, pair-within n (c .before .before .before .before .loop .k) (c .before .before .before .before .before .before .before .before .before .pre) h)) (λ c. let n = c .before .before .before .before .before .before .before .before .before .args .n in let h : c .before .before .before .before .loop .k < n * n = omega arith in omega (arith, pair-within n (c .before .before .before .before .loop .k) (c .before .before .before .before .before .before .before .before .before .pre) h)) (λ c κs. tt) (λ c. let n = c .before .before .before .before .before .before .before .before .before .before .before .args .n in let h : c .before .before .before .before .before .before .loop .k < n * n = omega arith in omega (arith, pair-within n (c .before .before .before .before .before .before .loop .k) (c .before .before .before .before .before .before .before .before .before .before .before .pre) h)) (λ c. let n = c .before .before .before .before .before .before .before .before .before .before .before .args .n in let h : c .before .before .before .before .before .before .loop .k < n * n = omega arith in omega (arith, pair-within n (c .before .before .before .before .before .before .loop .k) (c .before .before .before .before .before .before .before .before .before .before .before .pre) h)) (λ c. let n = c .before .before .before .before .before .before .before .before .before .before .before .args .n in let h : c .before .before .before .before .before .before .loop .k < n * n = omega arith in omega (arith, pair-within n (c .before .before .before .before .before .before .loop .k) (c .before .before .before .before .before .before .before .before .before .before .before .pre) h)) (λ c. search needs) loop-again returns)
+delta-b3-ij-spec = tie.close (tie.spec Inv-loop μ-loop loop-holds (λ c. omega (arith, square-le (c .before .before .before .before .before .args .n) (c .before .before .before .before .before .pre))) (λ c. omega (arith, inside c)) (λ c. omega (arith, inside c)) (λ c. omega (arith, inside c)) (λ c. omega (arith, inside c)) (λ c. omega (arith, inside c)) (λ c. omega (arith, inside c)) (λ c. omega (arith, inside c)) (λ c. omega (arith, inside c)) (λ c. omega (arith, inside c)) (λ c. omega (arith, inside c)) (λ c. omega (arith, inside c)) (λ c. omega (arith, inside c)) (λ c. omega (arith, inside (c .before))) (λ c. omega (arith, inside (c .before))) (λ c. omega (arith, inside (c .before .before))) (λ c. omega (arith, inside (c .before .before))) (λ c. omega (arith, inside (c .before .before .before))) (λ c. omega (arith, inside (c .before .before .before))) (λ c κs. tt) (λ c. omega (arith, inside (c .before .before .before .before .before))) (λ c. omega (arith, inside (c .before .before .before .before .before))) (λ c. omega (arith, inside (c .before .before .before .before .before))) (λ c. search needs) loop-again returns)

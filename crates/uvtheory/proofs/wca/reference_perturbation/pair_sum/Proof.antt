@@ -10,7 +10,7 @@ use Rattle.uvtheory.specs.Rows.{row, matrix, table}
 use Rattle.uvtheory.specs.Literals as N
 use Rattle.uvtheory.specs.Wca.ReferencePerturbation as F
 use mathlib.Core.List.{List, []}
-use Rattle.uvtheory.proofs.Loops.{sum-step, row-of, column-of, at-pair, square-le}
+use Rattle.uvtheory.proofs.Loops.{sum-step, at-pair, square-le, Bounds, pair-within}
 use Rattle.uvtheory.proofs.wca.reference_perturbation.pair_sum.Statement.{statement}
 use Rattle.uvtheory.proofs.wca.reference_perturbation.pair_sum.Tie as tie
 
@@ -19,6 +19,10 @@ Inv-loop ta tb n x rm d length q sigma-ij rep-ij eta sum₀ k₀ sum k = (k ≤ 
 
 abbrev μ-loop : tie.MeasureT-loop
 μ-loop ta tb n x rm d length q sigma-ij rep-ij eta sum₀ k₀ sum k = n * n - k
+
+-- what the bounds of every access follow from
+inside : (c : tie.In-loop Inv-loop μ-loop) → Bounds (c .before .before .args .n) (c .before .loop .k)
+inside c = pair-within (c .before .before .args .n) (c .before .loop .k) (c .before .before .pre) (omega arith)
 
 loop-holds : tie.Need-loop-holds Inv-loop μ-loop
 unfolding sumBy
@@ -35,4 +39,4 @@ returns : tie.Need-returns Inv-loop μ-loop
 returns c = let e : c .before .loop .k ≡ c .before .before .args .n * c .before .before .args .n = omega arith in c .before .loop .inv .1 ∙ ap (λ (m : ℕ). guarded .sum m (λ l. F.term-ij guarded (table (c .before .before .args .ta)) (table (c .before .before .args .tb)) (row (c .before .before .args .x .now)) (row (c .before .before .args .rm .now)) (row (c .before .before .args .d .now)) (row (c .before .before .args .length .now)) (matrix (c .before .before .args .n) (c .before .before .args .q .now)) (matrix (c .before .before .args .n) (c .before .before .args .sigma-ij .now)) (matrix (c .before .before .args .n) (c .before .before .args .rep-ij .now)) (c .before .before .args .eta) (l / c .before .before .args .n) (l % c .before .before .args .n))) e
 
 pub pair-sum-spec : {M : Type 1} → statement M
-pair-sum-spec = tie.close (tie.spec Inv-loop μ-loop loop-holds (λ c. omega (arith, square-le (c .before .args .n) (c .before .pre))) (λ c. let h : c .before .loop .k < c .before .before .args .n * c .before .before .args .n = omega arith in omega (arith, square-le (c .before .before .args .n) (c .before .before .pre), row-of (c .before .before .args .n) (c .before .loop .k) h, column-of (c .before .before .args .n) (c .before .loop .k) h)) (λ c. let h : c .before .loop .k < c .before .before .args .n * c .before .before .args .n = omega arith in omega (arith, square-le (c .before .before .args .n) (c .before .before .pre), row-of (c .before .before .args .n) (c .before .loop .k) h, column-of (c .before .before .args .n) (c .before .loop .k) h)) (λ c. let h : c .before .loop .k < c .before .before .args .n * c .before .before .args .n = omega arith in omega (arith, square-le (c .before .before .args .n) (c .before .before .pre), row-of (c .before .before .args .n) (c .before .loop .k) h, column-of (c .before .before .args .n) (c .before .loop .k) h)) (λ c. let h : c .before .loop .k < c .before .before .args .n * c .before .before .args .n = omega arith in omega (arith, square-le (c .before .before .args .n) (c .before .before .pre), row-of (c .before .before .args .n) (c .before .loop .k) h, column-of (c .before .before .args .n) (c .before .loop .k) h)) (λ c. let h : c .before .before .loop .k < c .before .before .before .args .n * c .before .before .before .args .n = omega arith in omega (arith, square-le (c .before .before .before .args .n) (c .before .before .before .pre), row-of (c .before .before .before .args .n) (c .before .before .loop .k) h, column-of (c .before .before .before .args .n) (c .before .before .loop .k) h)) (λ c. let h : c .before .before .loop .k < c .before .before .before .args .n * c .before .before .before .args .n = omega arith in omega (arith, square-le (c .before .before .before .args .n) (c .before .before .before .pre), row-of (c .before .before .before .args .n) (c .before .before .loop .k) h, column-of (c .before .before .before .args .n) (c .before .before .loop .k) h)) (λ c. let h : c .before .before .before .loop .k < c .before .before .before .before .args .n * c .before .before .before .before .args .n = omega arith in omega (arith, square-le (c .before .before .before .before .args .n) (c .before .before .before .before .pre), row-of (c .before .before .before .before .args .n) (c .before .before .before .loop .k) h, column-of (c .before .before .before .before .args .n) (c .before .before .before .loop .k) h)) (λ c. let h : c .before .before .before .loop .k < c .before .before .before .before .args .n * c .before .before .before .before .args .n = omega arith in omega (arith, square-le (c .before .before .before .before .args .n) (c .before .before .before .before .pre), row-of (c .before .before .before .before .args .n) (c .before .before .before .loop .k) h, column-of (c .before .before .before .before .args .n) (c .before .before .before .loop .k) h)) (λ c. let h : c .before .before .before .before .loop .k < c .before .before .before .before .before .args .n * c .before .before .before .before .before .args .n = omega arith in omega (arith, square-le (c .before .before .before .before .before .args .n) (c .before .before .before .before .before .pre), row-of (c .before .before .before .before .before .args .n) (c .before .before .before .before .loop .k) h, column-of (c .before .before .before .before .before .args .n) (c .before .before .before .before .loop .k) h)) (λ c. let h : c .before .before .before .before .loop .k < c .before .before .before .before .before .args .n * c .before .before .before .before .before .args .n = omega arith in omega (arith, square-le (c .before .before .before .before .before .args .n) (c .before .before .before .before .before .pre), row-of (c .before .before .before .before .before .args .n) (c .before .before .before .before .loop .k) h, column-of (c .before .before .before .before .before .args .n) (c .before .before .before .before .loop .k) h)) (λ c. let h : c .before .before .before .before .before .loop .k < c .before .before .before .before .before .before .args .n * c .before .before .before .before .before .before .args .n = omega arith in omega (arith, square-le (c .before .before .before .before .before .before .args .n) (c .before .before .before .before .before .before .pre), row-of (c .before .before .before .before .before .before .args .n) (c .before .before .before .before .before .loop .k) h, column-of (c .before .before .before .before .before .before .args .n) (c .before .before .before .before .before .loop .k) h)) (λ c. let h : c .before .before .before .before .before .loop .k < c .before .before .before .before .before .before .args .n * c .before .before .before .before .before .before .args .n = omega arith in omega (arith, square-le (c .before .before .before .before .before .before .args .n) (c .before .before .before .before .before .before .pre), row-of (c .before .before .before .before .before .before .args .n) (c .before .before .before .before .before .loop .k) h, column-of (c .before .before .before .before .before .before .args .n) (c .before .before .before .before .before .loop .k) h)) (λ c. let h : c .before .before .before .before .before .before .loop .k < c .before .before .before .before .before .before .before .args .n * c .before .before .before .before .before .before .before .args .n = omega arith in omega (arith, square-le (c .before .before .before .before .before .before .before .args .n) (c .before .before .before .before .before .before .before .pre), row-of (c .before .before .before .before .before .before .before .args .n) (c .before .before .before .before .before .before .loop .k) h, column-of (c .before .before .before .before .before .before .before .args .n) (c .before .before .before .before .before .before .loop .k) h)) (λ c. let h : c .before .before .before .before .before .before .loop .k < c .before .before .before .before .before .before .before .args .n * c .before .before .before .before .before .before .before .args .n = omega arith in omega (arith, square-le (c .before .before .before .before .before .before .before .args .n) (c .before .before .before .before .before .before .before .pre), row-of (c .before .before .before .before .before .before .before .args .n) (c .before .before .before .before .before .before .loop .k) h, column-of (c .before .before .before .before .before .before .before .args .n) (c .before .before .before .before .before .before .loop .k) h)) (λ c. let h : c .before .before .before .before .before .before .before .loop .k < c .before .before .before .before .before .before .before .before .args .n * c .before .before .before .before .before .before .before .before .args .n = omega arith in omega (arith, square-le (c .before .before .before .before .before .before .before .before .args .n) (c .before .before .before .before .before .before .before .before .pre), row-of (c .before .before .before .before .before .before .before .before .args .n) (c .before .before .before .before .before .before .before .loop .k) h, column-of (c .before .before .before .before .before .before .before .before .args .n) (c .before .before .before .before .before .before .before .loop .k) h)) (λ c. let h : c .before .before .before .before .before .before .before .loop .k < c .before .before .before .before .before .before .before .before .args .n * c .before .before .before .before .before .before .before .before .args .n = omega arith in omega (arith, square-le (c .before .before .before .before .before .before .before .before .args .n) (c .before .before .before .before .before .before .before .before .pre), row-of (c .before .before .before .before .before .before .before .before .args .n) (c .before .before .before .before .before .before .before .loop .k) h, column-of (c .before .before .before .before .before .before .before .before .args .n) (c .before .before .before .before .before .before .before .loop .k) h)) (λ c. let h : c .before .before .before .before .before .before .before .before .loop .k < c .before .before .before .before .before .before .before .before .before .args .n * c .before .before .before .before .before .before .before .before .before .args .n = omega arith in omega (arith, square-le (c .before .before .before .before .before .before .before .before .before .args .n) (c .before .before .before .before .before .before .before .before .before .pre), row-of (c .before .before .before .before .before .before .before .before .before .args .n) (c .before .before .before .before .before .before .before .before .loop .k) h, column-of (c .before .before .before .before .before .before .before .before .before .args .n) (c .before .before .before .before .before .before .before .before .loop .k) h)) (λ c. let h : c .before .before .before .before .before .before .before .before .loop .k < c .before .before .before .before .before .before .before .before .before .args .n * c .before .before .before .before .before .before .before .before .before .args .n = omega arith in omega (arith, square-le (c .before .before .before .before .before .before .before .before .before .args .n) (c .before .before .before .before .before .before .before .before .before .pre), row-of (c .before .before .before .before .before .before .before .before .before .args .n) (c .before .before .before .before .before .before .before .before .loop .k) h, column-of (c .before .before .before .before .before .before .before .before .before .args .n) (c .before .before .before .before .before .before .before .before .loop .k) h)) (λ c. let h : c .before .before .before .before .before .before .before .before .before .loop .k < c .before .before .before .before .before .before .before .before .before .before .args .n * c .before .before .before .before .before .before .before .before .before .before .args .n = omega arith in omega (arith, square-le (c .before .before .before .before .before .before .before .before .before .before .args .n) (c .before .before .before .before .before .before .before .before .before .before .pre), row-of (c .before .before .before .before .before .before .before .before .before .before .args .n) (c .before .before .before .before .before .before .before .before .before .loop .k) h, column-of (c .before .before .before .before .before .before .before .before .before .before .args .n) (c .before .before .before .before .before .before .before .before .before .loop .k) h)) (λ c. let h : c .before .before .before .before .before .before .before .before .before .loop .k < c .before .before .before .before .before .before .before .before .before .before .args .n * c .before .before .before .before .before .before .before .before .before .before .args .n = omega arith in omega (arith, square-le (c .before .before .before .before .before .before .before .before .before .before .args .n) (c .before .before .before .before .before .before .before .before .before .before .pre), row-of (c .before .before .before .before .before .before .before .before .before .before .args .n) (c .before .before .before .before .before .before .before .before .before .loop .k) h, column-of (c .before .before .before .before .before .before .before .before .before .before .args .n) (c .before .before .before .before .before .before .before .before .before .loop .k) h)) (λ c. let h : c .before .before .before .before .before .before .before .before .before .before .loop .k < c .before .before .before .before .before .before .before .before .before .before .before .args .n * c .before .before .before .before .before .before .before .before .before .before .before .args .n = omega arith in omega (arith, square-le (c .before .before .before .before .before .before .before .before .before .before .before .args .n) (c .before .before .before .before .before .before .before .before .before .before .before .pre), row-of (c .before .before .before .before .before .before .before .before .before .before .before .args .n) (c .before .before .before .before .before .before .before .before .before .before .loop .k) h, column-of (c .before .before .before .before .before .before .before .before .before .before .before .args .n) (c .before .before .before .before .before .before .before .before .before .before .loop .k) h)) (λ c. let h : c .before .before .before .before .before .before .before .before .before .before .loop .k < c .before .before .before .before .before .before .before .before .before .before .before .args .n * c .before .before .before .before .before .before .before .before .before .before .before .args .n = omega arith in omega (arith, square-le (c .before .before .before .before .before .before .before .before .before .before .before .args .n) (c .before .before .before .before .before .before .before .before .before .before .before .pre), row-of (c .before .before .before .before .before .before .before .before .before .before .before .args .n) (c .before .before .before .before .before .before .before .before .before .before .loop .k) h, column-of (c .before .before .before .before .before .before .before .before .before .before .before .args .n) (c .before .before .before .before .before .before .before .before .before .before .loop .k) h)) (λ c. let h : c .before .before .before .before .before .before .before .before .before .before .before .loop .k < c .before .before .before .before .before .before .before .before .before .before .before .before .args .n * c .before .before .before .before .before .before .before .before .before .before .before .before .args .n = omega arith in omega (arith, square-le (c .before .before .before .before .before .before .before .before .before .before .before .before .args .n) (c .before .before .before .before .before .before .before .before .before .before .before .before .pre), row-of (c .before .before .before .before .before .before .before .before .before .before .before .before .args .n) (c .before .before .before .before .before .before .before .before .before .before .before .loop .k) h, column-of (c .before .before .before .before .before .before .before .before .before .before .before .before .args .n) (c .before .before .before .before .before .before .before .before .before .before .before .loop .k) h)) (λ c. let h : c .before .before .before .before .before .before .before .before .before .before .before .loop .k < c .before .before .before .before .before .before .before .before .before .before .before .before .args .n * c .before .before .before .before .before .before .before .before .before .before .before .before .args .n = omega arith in omega (arith, square-le (c .before .before .before .before .before .before .before .before .before .before .before .before .args .n) (c .before .before .before .before .before .before .before .before .before .before .before .before .pre), row-of (c .before .before .before .before .before .before .before .before .before .before .before .before .args .n) (c .before .before .before .before .before .before .before .before .before .before .before .loop .k) h, column-of (c .before .before .before .before .before .before .before .before .before .before .before .before .args .n) (c .before .before .before .before .before .before .before .before .before .before .before .loop .k) h)) (λ c κs. tt) (λ c. let h : c .before .before .before .before .before .before .before .before .before .before .before .before .before .loop .k < c .before .before .before .before .before .before .before .before .before .before .before .before .before .before .args .n * c .before .before .before .before .before .before .before .before .before .before .before .before .before .before .args .n = omega arith in omega (arith, square-le (c .before .before .before .before .before .before .before .before .before .before .before .before .before .before .args .n) (c .before .before .before .before .before .before .before .before .before .before .before .before .before .before .pre), row-of (c .before .before .before .before .before .before .before .before .before .before .before .before .before .before .args .n) (c .before .before .before .before .before .before .before .before .before .before .before .before .before .loop .k) h, column-of (c .before .before .before .before .before .before .before .before .before .before .before .before .before .before .args .n) (c .before .before .before .before .before .before .before .before .before .before .before .before .before .loop .k) h)) (λ c. search needs) loop-again returns)
+pair-sum-spec = tie.close (tie.spec Inv-loop μ-loop loop-holds (λ c. omega (arith, square-le (c .before .args .n) (c .before .pre))) (λ c. omega (arith, inside c)) (λ c. omega (arith, inside c)) (λ c. omega (arith, inside c)) (λ c. omega (arith, inside c)) (λ c. omega (arith, inside (c .before))) (λ c. omega (arith, inside (c .before))) (λ c. omega (arith, inside (c .before .before))) (λ c. omega (arith, inside (c .before .before))) (λ c. omega (arith, inside (c .before .before .before))) (λ c. omega (arith, inside (c .before .before .before))) (λ c. omega (arith, inside (c .before .before .before .before))) (λ c. omega (arith, inside (c .before .before .before .before))) (λ c. omega (arith, inside (c .before .before .before .before .before))) (λ c. omega (arith, inside (c .before .before .before .before .before))) (λ c. omega (arith, inside (c .before .before .before .before .before .before))) (λ c. omega (arith, inside (c .before .before .before .before .before .before))) (λ c. omega (arith, inside (c .before .before .before .before .before .before .before))) (λ c. omega (arith, inside (c .before .before .before .before .before .before .before))) (λ c. omega (arith, inside (c .before .before .before .before .before .before .before .before))) (λ c. omega (arith, inside (c .before .before .before .before .before .before .before .before))) (λ c. omega (arith, inside (c .before .before .before .before .before .before .before .before .before))) (λ c. omega (arith, inside (c .before .before .before .before .before .before .before .before .before))) (λ c. omega (arith, inside (c .before .before .before .before .before .before .before .before .before .before))) (λ c. omega (arith, inside (c .before .before .before .before .before .before .before .before .before .before))) (λ c κs. tt) (λ c. omega (arith, inside (c .before .before .before .before .before .before .before .before .before .before .before .before))) (λ c. search needs) loop-again returns)
