@@ -9,7 +9,7 @@ use borrow.Author.Tests.{eq-eqb, ne-eqb}
 use mathlib.Core.Bool.{Bool, true, false, _&&_, cond}
 use lib.Ieee.{Float, nan, inf, fin}
 use lib.Ieee.Scale.{finite}
-use Rattle.arithmetic.specs.Doubles.{checked, doubles, guarded}
+use Rattle.arithmetic.specs.Doubles.{checked, guarded}
 use Rattle.uvtheory.specs.Contributions.{Contributions}
 use Rattle.uvtheory.specs.Eos.{residual-helmholtz-energy-contributions}
 use Rattle.uvtheory.specs.declared.contributions.Contributions.{Contributions as Held}

@@ -1,10 +1,9 @@
 -- The sums over arrays that hold the formulas' values are the formulas' sums.
 use Prim.Native.Nat.{ℕ, _*_, _/_, _%_, _<_}
-use mathlib.Core.Path.{_≡_, refl, sym, ap, ap₂, _∙_}
+use mathlib.Core.Path.{_≡_, ap, ap₂, _∙_}
 use mathlib.Core.List.{List}
 use lib.ListN.{getD}
-use lib.Ieee.{Float, nan, binary64, mul}
-use Rattle.arithmetic.specs.Arithmetic.{powerBy}
+use lib.Ieee.{Float, nan, mul}
 use Rattle.arithmetic.specs.Doubles.{guarded}
 use Rattle.uvtheory.specs.declared.parameters.Mixture.{Mixture}
 use Rattle.uvtheory.specs.declared.parameters.State.{State}

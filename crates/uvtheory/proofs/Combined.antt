@@ -1,11 +1,10 @@
 -- A combined matrix is given on the diagonal, worked for i below j, and the same at (i, j) and (j, i).
-use Prim.Native.Nat.{ℕ, _<_, _*_, _/_, _%_}
+use Prim.Native.Nat.{ℕ, _<_, _/_, _%_}
 use mathlib.Core.Path.{_≡_, refl, sym, subst, _∙_}
 use native.Mathlib.Nat.{le-of-lt, lt-trans}
 use native.Mathlib.Omega.{arith}
 use mathlib.Core.List.{List}
 use lib.Ieee.{Float}
-use lib.Dec.{eqb, ltb}
 use borrow.Author.Tests.{lt-ltb, le-ltb, eq-eqb, ne-eqb}
 use Rattle.arithmetic.specs.Doubles.{guarded}
 use Rattle.uvtheory.specs.Parameters.{combined}

@@ -1,5 +1,5 @@
 -- The place of k_ij among those of i below j lies within the array of 28.
-use Prim.Native.Nat.{ℕ, zero, suc, _+_, _-_, _*_, _/_, _<_, _≤_}
+use Prim.Native.Nat.{ℕ, zero, suc, _-_, _*_, _<_, _≤_}
 use native.Mathlib.Omega.{arith}
 use Rattle.uvtheory.specs.Rows.{place}
 

@@ -1,8 +1,8 @@
 -- Each coefficient of Tables.antt is the nearest double to the digits that the Rust has: by computation, over whole tables.
 use Prim.Native.Nat.{ℕ, _^_}
 use mathlib.Core.Path.{_≡_, refl}
-use mathlib.Core.Bool.{Bool, true, false}
-use mathlib.Core.List.{List, [], _∷_, map}
+use mathlib.Core.Bool.{true, false}
+use mathlib.Core.List.{[], _∷_}
 use lib.Ieee.{Float, binary64, round, ofBits}
 use Rattle.uvtheory.specs.Tables as T
 

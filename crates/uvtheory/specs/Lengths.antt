@@ -1,5 +1,4 @@
 -- The lengths of WCA as the code holds them, by the formulas: of the components, and of the pairs.
-use mathlib.Core.Path.{_≡_}
 use lib.Ieee.{Float}
 use Rattle.arithmetic.specs.Doubles.{guarded}
 use Rattle.uvtheory.specs.declared.parameters.Mixture.{Mixture}

@@ -2,7 +2,6 @@
 use crate::contributions::Contributions;
 use crate::parameters::Mixture;
 use crate::parameters::State;
-ghost use mathlib.Core.Path.{_≡_};
 ghost use Prim.Native.Nat.{_≤_};
 ghost use Rattle.arithmetic.specs.Doubles.{guarded};
 ghost use Rattle.uvtheory.specs.Rows.{parameters, state};

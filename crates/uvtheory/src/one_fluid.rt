@@ -5,7 +5,6 @@ use elementary::exponential::powf;
 ghost use mathlib.Core.Path.{_≡_};
 ghost use Prim.Native.Nat.{_≤_, _<_, _*_};
 ghost use Rattle.arithmetic.specs.Doubles.{guarded};
-ghost use Rattle.uvtheory.specs.Literals as N;
 ghost use Rattle.uvtheory.specs.Rows.{row, matrix, fluid};
 ghost use Rattle.uvtheory.specs.OneFluid as F;
 

@@ -1,12 +1,8 @@
 // The packing fractions, which bh/hard_sphere.rs and wca/hard_sphere.rs have word for word but for tau and the tables.
 use elementary::basic::div;
-ghost use lib.Ieee.{nan};
-ghost use lib.ListN.{getD};
-ghost use mathlib.Core.List.{[]};
 ghost use mathlib.Core.Path.{_≡_};
 ghost use Prim.Native.Nat.{_≤_, _<_, _*_};
 ghost use Rattle.arithmetic.specs.Doubles.{guarded};
-ghost use Rattle.uvtheory.specs.Literals as N;
 ghost use Rattle.uvtheory.specs.Rows.{row, table};
 ghost use Rattle.uvtheory.specs.PackingFraction as F;
 

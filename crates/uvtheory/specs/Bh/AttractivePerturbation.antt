@@ -2,7 +2,7 @@
 use Prim.Native.Nat.{ℕ}
 use lib.Ieee.{Float}
 use Rattle.arithmetic.specs.Arithmetic.{Arithmetic}
-use Rattle.arithmetic.specs.Sums.{recip, dot, pairs}
+use Rattle.arithmetic.specs.Sums.{recip}
 use Rattle.uvtheory.specs.Literals.{one, two, three, four, five, six, eight, sixteen, twentyFour, minusThreeQuarters, u-exponent-a, u-exponent-b, PI, FRAC-PI-3}
 use Rattle.uvtheory.specs.Tables.{C-BH, CU-BH, C2-BH}
 use Rattle.uvtheory.specs.Parameters.{UVTheoryPars, State, mie-prefactor, mean-field-constant}

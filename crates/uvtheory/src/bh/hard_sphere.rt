@@ -6,13 +6,8 @@ use elementary::basic::div;
 use elementary::exponential::powf;
 use elementary::logarithm::ln;
 ghost use mathlib.Core.Path.{_≡_};
-ghost use Prim.Native.Nat.{ℕ, _+_, _≤_, _<_, _*_};
-ghost use lib.Ieee.{Float, nan};
-ghost use lib.ListN.{getD};
-ghost use mathlib.Core.List.{[]};
+ghost use Prim.Native.Nat.{_+_, _≤_, _<_, _*_};
 ghost use Rattle.arithmetic.specs.Doubles.{guarded};
-ghost use Rattle.arithmetic.specs.Sums.{pairs};
-ghost use Rattle.uvtheory.specs.Literals as N;
 ghost use Rattle.uvtheory.specs.Rows.{row, Row, parameters};
 ghost use Rattle.uvtheory.specs.Bh.HardSphere as F;
 

@@ -7,7 +7,6 @@ use elementary::root::sqrt;
 ghost use mathlib.Core.Path.{_≡_};
 ghost use Prim.Native.Nat.{_≤_, _<_, _*_};
 ghost use Rattle.arithmetic.specs.Doubles.{guarded};
-ghost use Rattle.uvtheory.specs.Literals as N;
 ghost use Rattle.uvtheory.specs.Rows.{row, matrix, Matrix};
 ghost use Rattle.uvtheory.specs.Held.{Symmetric};
 ghost use Rattle.uvtheory.specs.Lengths.{RowsOf};

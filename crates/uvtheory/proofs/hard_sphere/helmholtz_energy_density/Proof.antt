@@ -1,4 +1,3 @@
-use mathlib.Core.Path.{_≡_}
 use Rattle.uvtheory.specs.HardSphere as F
 use Rattle.uvtheory.proofs.hard_sphere.helmholtz_energy_density.Statement.{statement}
 use Rattle.uvtheory.proofs.hard_sphere.helmholtz_energy_density.Tie as tie

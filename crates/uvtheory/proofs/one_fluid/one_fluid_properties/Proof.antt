@@ -1,6 +1,5 @@
 use mathlib.Core.Path.{refl}
 use borrow.Author.Needs.{needs}
-use Rattle.uvtheory.specs.OneFluid as F
 use Rattle.uvtheory.proofs.one_fluid.one_fluid_properties.Statement.{statement}
 use Rattle.uvtheory.proofs.one_fluid.one_fluid_properties.Tie as tie
 

@@ -1,13 +1,10 @@
-use Prim.Native.Nat.{ℕ, _≤_, _<_, _-_, _*_, _/_, _%_}
+use Prim.Native.Nat.{ℕ, _≤_, _-_, _*_, _/_, _%_}
 use mathlib.Core.Path.{_≡_, refl, ap, _∙_}
 use native.Mathlib.Omega.{arith}
 use borrow.Author.Needs.{needs}
-use lib.ListN.{getD}
-use lib.Ieee.{Float, nan}
 use Rattle.arithmetic.specs.Arithmetic.{sumBy, powerBy}
 use Rattle.arithmetic.specs.Doubles.{guarded}
 use Rattle.uvtheory.specs.Rows.{row, matrix}
-use Rattle.uvtheory.specs.Literals as N
 use Rattle.uvtheory.specs.OneFluid as F
 use Rattle.uvtheory.proofs.Loops.{sum-step, at-pair, square-le, Bounds, pair-within}
 use Rattle.uvtheory.proofs.one_fluid.third_virial_sum.Statement.{statement}

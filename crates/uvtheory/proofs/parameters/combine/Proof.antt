@@ -1,6 +1,6 @@
 -- The loop's invariant: the first k pairs of each matrix stand in their places.
 use Prim.Native.Nat.{_≤_, _-_, _*_, _<_}
-use mathlib.Core.Path.{_≡_, refl}
+use mathlib.Core.Path.{refl}
 use native.Mathlib.Omega.{arith}
 use borrow.Author.Needs.{needs}
 use Rattle.arithmetic.specs.Doubles.{guarded}

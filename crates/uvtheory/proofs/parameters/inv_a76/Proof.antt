@@ -1,5 +1,4 @@
 use mathlib.Core.Path.{refl}
-use Rattle.uvtheory.specs.Parameters as F
 use Rattle.uvtheory.proofs.parameters.inv_a76.Statement.{statement}
 use Rattle.uvtheory.proofs.parameters.inv_a76.Tie as tie
 

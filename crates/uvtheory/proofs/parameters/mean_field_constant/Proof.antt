@@ -1,5 +1,4 @@
 use mathlib.Core.Path.{refl}
-use Rattle.uvtheory.specs.Parameters as F
 use Rattle.uvtheory.proofs.parameters.mean_field_constant.Statement.{statement}
 use Rattle.uvtheory.proofs.parameters.mean_field_constant.Tie as tie
 

@@ -1,4 +1,3 @@
-use mathlib.Core.Path.{_≡_}
 use borrow.Author.Needs.{needs}
 use Rattle.uvtheory.proofs.Combined.{below}
 use Rattle.uvtheory.proofs.parameters.pair_of.Statement.{statement}

@@ -1,9 +1,4 @@
-use mathlib.Core.Path.{_≡_, refl, _∙_}
-use borrow.Author.Needs.{needs}
-use Prim.Native.Nat.{ℕ, _*_, _/_, _%_}
-use lib.Ieee.{Float}
-use Rattle.arithmetic.specs.Doubles.{guarded}
-use Rattle.uvtheory.specs.Rows.{parameters, state}
+use mathlib.Core.Path.{_∙_}
 use Rattle.uvtheory.proofs.Combined.{rep-symmetric, att-symmetric, epsilon-symmetric}
 use Rattle.uvtheory.proofs.Lengths.{lengths-are}
 use Rattle.uvtheory.proofs.Arrays.{hard-sphere-of}

@@ -1,6 +1,3 @@
-use mathlib.Core.Path.{refl, _∙_}
-use borrow.Author.Needs.{needs}
-use Rattle.uvtheory.specs.Bh.AttractivePerturbation as F
 use Rattle.uvtheory.proofs.bh.attractive_perturbation.delta_b2_at.Statement.{statement}
 use Rattle.uvtheory.proofs.bh.attractive_perturbation.delta_b2_at.Tie as tie
 

@@ -1,7 +1,5 @@
-use mathlib.Core.Path.{_≡_, refl, _∙_}
-use borrow.Author.Needs.{needs}
-use Prim.Native.Nat.{ℕ, _*_, _/_, _%_}
-use lib.Ieee.{Float}
+use mathlib.Core.Path.{_∙_}
+use Prim.Native.Nat.{_*_, _/_, _%_}
 use Rattle.arithmetic.specs.Doubles.{guarded}
 use Rattle.uvtheory.specs.Rows.{row, matrix, parameters}
 use Rattle.uvtheory.specs.PackingFraction as P

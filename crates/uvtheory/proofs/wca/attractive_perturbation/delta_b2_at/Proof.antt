@@ -1,4 +1,3 @@
-use mathlib.Core.Path.{_≡_}
 use Rattle.uvtheory.proofs.wca.attractive_perturbation.delta_b2_at.Statement.{statement}
 use Rattle.uvtheory.proofs.wca.attractive_perturbation.delta_b2_at.Tie as tie
 

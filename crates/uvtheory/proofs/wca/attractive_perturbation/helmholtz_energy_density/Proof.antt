@@ -1,9 +1,8 @@
-use mathlib.Core.Path.{_≡_, refl, _∙_}
-use borrow.Author.Needs.{needs}
-use Prim.Native.Nat.{ℕ, _*_, _/_, _%_}
+use mathlib.Core.Path.{_∙_}
+use Prim.Native.Nat.{ℕ}
 use lib.Ieee.{Float}
 use Rattle.arithmetic.specs.Doubles.{guarded}
-use Rattle.uvtheory.specs.Rows.{row, matrix, parameters}
+use Rattle.uvtheory.specs.Rows.{row, parameters}
 use Rattle.uvtheory.specs.Wca.HardSphere.{rm-of, diameter-wca, dimensionless-diameter-q-wca}
 use Rattle.uvtheory.specs.Wca.AttractivePerturbation as F
 use Rattle.uvtheory.proofs.Combined.{rep-symmetric, att-symmetric, epsilon-symmetric}

@@ -1,5 +1,3 @@
-use mathlib.Core.Path.{_≡_}
-use lib.Ieee.{ofBits}
 use Rattle.uvtheory.proofs.wca.attractive_perturbation_uvb3.delta_b3_at.Statement.{statement}
 use Rattle.uvtheory.proofs.wca.attractive_perturbation_uvb3.delta_b3_at.Tie as tie
 

@@ -1,6 +1,6 @@
 -- The loop's invariant: the first k pairs stand in their places.
 use Prim.Native.Nat.{ℕ, _≤_, _<_, _-_, _*_}
-use mathlib.Core.Path.{_≡_, refl, _∙_}
+use mathlib.Core.Path.{refl, _∙_}
 use mathlib.Core.List.{List}
 use native.Mathlib.Omega.{arith}
 use borrow.Author.Needs.{needs}

@@ -1,15 +1,14 @@
-use mathlib.Core.Path.{_≡_, refl, _∙_}
-use borrow.Author.Needs.{needs}
-use Prim.Native.Nat.{ℕ, _*_, _/_, _%_}
+use mathlib.Core.Path.{_∙_}
+use Prim.Native.Nat.{ℕ, _/_, _%_}
 use lib.Ieee.{Float}
 use Rattle.arithmetic.specs.Doubles.{guarded}
-use Rattle.uvtheory.specs.Rows.{row, matrix, parameters}
+use Rattle.uvtheory.specs.Rows.{row, parameters}
 use Rattle.uvtheory.specs.Wca.HardSphere.{rm-of, diameter-wca, dimensionless-diameter-q-wca}
 use Rattle.uvtheory.specs.Wca.AttractivePerturbationUvb3 as F
 use Rattle.uvtheory.proofs.Loops.{row-of, column-of}
-use Rattle.uvtheory.proofs.Combined.{rep-symmetric, att-symmetric, epsilon-symmetric}
+use Rattle.uvtheory.proofs.Combined.{rep-symmetric, epsilon-symmetric}
 use Rattle.uvtheory.proofs.Lengths.{rm-symmetric, q-symmetric}
-use Rattle.uvtheory.proofs.Arrays.{matrix-at, rep-at, att-at, epsilon-at, one-fluid-is, virial-sum-of}
+use Rattle.uvtheory.proofs.Arrays.{matrix-at, rep-at, epsilon-at, one-fluid-is, virial-sum-of}
 use Rattle.uvtheory.proofs.wca.attractive_perturbation_uvb3.helmholtz_energy_density.Statement.{statement}
 use Rattle.uvtheory.proofs.wca.attractive_perturbation_uvb3.helmholtz_energy_density.Tie as tie
 

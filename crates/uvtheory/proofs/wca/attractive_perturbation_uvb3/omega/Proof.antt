@@ -1,5 +1,5 @@
 -- The tests tell the two cases.
-use mathlib.Core.Path.{_≡_, refl, sym, _∙_, subst}
+use mathlib.Core.Path.{_≡_, sym, _∙_, subst}
 use mathlib.Core.Bool.{true, false, cond}
 use borrow.Author.Needs.{needs}
 use lib.Dec.{T}

@@ -1,10 +1,9 @@
 -- The loop's invariant: after m turns the sum has m terms after the first, and the power is beta^(m + 1).
-use Prim.Native.Nat.{ℕ, zero, suc, _+_, _-_, _≤_}
-use mathlib.Core.Path.{_≡_, refl, sym, ap, _∙_}
+use Prim.Native.Nat.{ℕ, suc, _+_, _-_, _≤_}
+use mathlib.Core.Path.{_≡_, refl, ap, _∙_}
 use native.Mathlib.Omega.{arith}
 use native.Mathlib.Numerals.{add-one}
 use borrow.Author.Needs.{needs}
-use lib.Ieee.{Float}
 use Rattle.arithmetic.specs.Arithmetic.{powerBy}
 use Rattle.arithmetic.specs.Doubles.{guarded}
 use Rattle.uvtheory.specs.Wca.AttractivePerturbationUvb3 as F

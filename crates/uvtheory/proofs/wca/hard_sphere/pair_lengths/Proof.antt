@@ -1,12 +1,12 @@
 -- The loop's invariant: the first k pairs stand in their places.
 use Prim.Native.Nat.{ℕ, _≤_, _<_, _-_, _*_}
-use mathlib.Core.Path.{_≡_, refl, _∙_}
+use mathlib.Core.Path.{refl, _∙_}
 use mathlib.Core.List.{List}
 use native.Mathlib.Omega.{arith}
 use borrow.Author.Needs.{needs}
 use lib.Ieee.{Float}
 use Rattle.arithmetic.specs.Doubles.{guarded}
-use Rattle.uvtheory.specs.Rows.{row, matrix}
+use Rattle.uvtheory.specs.Rows.{matrix}
 use Rattle.uvtheory.specs.Wca.HardSphere as F
 use Rattle.uvtheory.proofs.Loops.{at-pair, pair-within, square-le, Filled, one-more, mirror, Bounds}
 use Rattle.uvtheory.proofs.wca.hard_sphere.pair_lengths.Statement.{statement}

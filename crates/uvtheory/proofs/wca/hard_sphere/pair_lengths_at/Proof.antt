@@ -1,4 +1,3 @@
-use mathlib.Core.Path.{_≡_}
 use Rattle.uvtheory.proofs.wca.hard_sphere.pair_lengths_at.Statement.{statement}
 use Rattle.uvtheory.proofs.wca.hard_sphere.pair_lengths_at.Tie as tie
 

@@ -1,5 +1,4 @@
-use mathlib.Core.Path.{_≡_, refl, _∙_}
-use borrow.Author.Needs.{needs}
+use mathlib.Core.Path.{_∙_}
 use Prim.Native.Nat.{ℕ, _*_, _/_, _%_}
 use lib.Ieee.{Float}
 use Rattle.arithmetic.specs.Doubles.{guarded}

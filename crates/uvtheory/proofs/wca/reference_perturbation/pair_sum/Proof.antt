@@ -1,15 +1,11 @@
-use Prim.Native.Nat.{ℕ, _≤_, _<_, _-_, _*_, _/_, _%_}
+use Prim.Native.Nat.{ℕ, _≤_, _-_, _*_, _/_, _%_}
 use mathlib.Core.Path.{_≡_, refl, ap, _∙_}
 use native.Mathlib.Omega.{arith}
 use borrow.Author.Needs.{needs}
-use lib.ListN.{getD}
-use lib.Ieee.{Float, nan}
 use Rattle.arithmetic.specs.Arithmetic.{sumBy, powerBy}
 use Rattle.arithmetic.specs.Doubles.{guarded}
 use Rattle.uvtheory.specs.Rows.{row, matrix, table}
-use Rattle.uvtheory.specs.Literals as N
 use Rattle.uvtheory.specs.Wca.ReferencePerturbation as F
-use mathlib.Core.List.{List, []}
 use Rattle.uvtheory.proofs.Loops.{sum-step, at-pair, square-le, Bounds, pair-within}
 use Rattle.uvtheory.proofs.wca.reference_perturbation.pair_sum.Statement.{statement}
 use Rattle.uvtheory.proofs.wca.reference_perturbation.pair_sum.Tie as tie
