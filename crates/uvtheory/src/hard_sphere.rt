@@ -1,4 +1,5 @@
 // hard_sphere/mod.rs, MonomerShape::Spherical: the hard-sphere term.
+use crate::consts::FRAC_PI_6;
 use crate::parameters::State;
 use elementary::basic::div;
 use elementary::logarithm::ln_1p;
@@ -7,8 +8,6 @@ ghost use Prim.Native.Nat.{_≤_, _<_, _*_};
 ghost use Rattle.arithmetic.specs.Doubles.{guarded};
 ghost use Rattle.uvtheory.specs.Rows.{row, state};
 ghost use Rattle.uvtheory.specs.HardSphere as F;
-
-const FRAC_PI_6: f64 = 0.52359877559829887307710723054658381;
 
 // The four zeta of the fractions.
 pub struct Zeta {

@@ -1,12 +1,11 @@
 // The packing fractions, which bh/hard_sphere.rs and wca/hard_sphere.rs have word for word but for tau and the tables.
+use crate::consts::PI;
 use elementary::basic::div;
 ghost use mathlib.Core.Path.{_≡_};
 ghost use Prim.Native.Nat.{_≤_, _<_, _*_};
 ghost use Rattle.arithmetic.specs.Doubles.{guarded};
 ghost use Rattle.uvtheory.specs.Rows.{row, table};
 ghost use Rattle.uvtheory.specs.PackingFraction as F;
-
-const PI: f64 = 3.14159265358979323846264338327950288;
 
 pub fn packing_fraction(n: usize, partial_density: &[f64; 8], diameter: &[f64; 8]) -> f64
     requires { ⌜ n ≤ 8 ⌝ }

@@ -1,10 +1,9 @@
 // The last line of the three reference perturbations: the energy by the sum a over all pairs and the density.
+use crate::consts::PI;
 use elementary::basic::div;
 ghost use mathlib.Core.Path.{_≡_};
 ghost use Rattle.arithmetic.specs.Doubles.{guarded};
 ghost use Rattle.uvtheory.specs.ReferenceEnergy as F;
-
-const PI: f64 = 3.14159265358979323846264338327950288;
 
 pub fn energy(a: f64, density: f64) -> f64
     ensures { λ r. ⌜ r ≡ F.energy guarded a density ⌝ }

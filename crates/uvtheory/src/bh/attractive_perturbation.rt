@@ -1,4 +1,6 @@
 // uvtheory/eos/bh/attractive_perturbation.rs: the attractive perturbation by Barker-Henderson.
+use crate::consts::FRAC_PI_3;
+use crate::consts::PI;
 use crate::one_fluid::OneFluid;
 use crate::one_fluid::mean_cube;
 use crate::one_fluid::one_fluid_properties;
@@ -22,10 +24,6 @@ ghost use Rattle.uvtheory.specs.Rows.{row, matrix, fluid, Row, Matrix, p
 ghost use Rattle.uvtheory.specs.Held.{CombinedOf, Symmetric};
 ghost use Rattle.uvtheory.specs.Bh.HardSphere.{diameter-bh};
 ghost use Rattle.uvtheory.specs.Bh.AttractivePerturbation as F;
-
-const PI: f64 = 3.14159265358979323846264338327950288;
-
-const FRAC_PI_3: f64 = 1.04719755119659774615421446109316763;
 
 const C_BH: [[f64; 4]; 2] = [
     [

@@ -1,4 +1,5 @@
 // uvtheory/eos/wca/attractive_perturbation.rs: the attractive perturbation by Weeks, Chandler and Andersen.
+use crate::consts::PI;
 use crate::one_fluid::OneFluid;
 use crate::one_fluid::mean_cube;
 use crate::one_fluid::one_fluid_properties;
@@ -24,8 +25,6 @@ ghost use Rattle.uvtheory.specs.Lengths.{LengthsOf};
 ghost use Rattle.uvtheory.specs.Parameters.{mie-prefactor};
 ghost use Rattle.uvtheory.specs.Wca.HardSphere.{diameter-wca};
 ghost use Rattle.uvtheory.specs.Wca.AttractivePerturbation as F;
-
-const PI: f64 = 3.14159265358979323846264338327950288;
 
 const C_WCA: [[f64; 6]; 6] = [
     [

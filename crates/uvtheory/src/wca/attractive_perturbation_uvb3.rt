@@ -1,4 +1,5 @@
 // uvtheory/eos/wca/attractive_perturbation_uvb3.rs: the attractive perturbation of WCA-B3.
+use crate::consts::PI;
 use crate::one_fluid::OneFluid;
 use crate::one_fluid::mean_cube;
 use crate::one_fluid::one_fluid_properties;
@@ -28,8 +29,6 @@ ghost use Rattle.uvtheory.specs.Held.{CombinedOf, Symmetric};
 ghost use Rattle.uvtheory.specs.Lengths.{LengthsOf};
 ghost use Rattle.uvtheory.specs.Wca.HardSphere.{diameter-wca};
 ghost use Rattle.uvtheory.specs.Wca.AttractivePerturbationUvb3 as F;
-
-const PI: f64 = 3.14159265358979323846264338327950288;
 
 // The first row of C_WCA.
 const C_WCA_0: [f64; 6] = [

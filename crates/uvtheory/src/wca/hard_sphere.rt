@@ -1,4 +1,5 @@
 // uvtheory/eos/wca/hard_sphere.rs: diameters and lengths by Weeks, Chandler and Andersen.
+use crate::consts::PI;
 use crate::parameters::Combined;
 use crate::parameters::Mixture;
 use elementary::basic::div;
@@ -11,8 +12,6 @@ ghost use Rattle.uvtheory.specs.Rows.{row, matrix, Matrix};
 ghost use Rattle.uvtheory.specs.Held.{Symmetric};
 ghost use Rattle.uvtheory.specs.Lengths.{RowsOf};
 ghost use Rattle.uvtheory.specs.Wca.HardSphere as F;
-
-const PI: f64 = 3.14159265358979323846264338327950288;
 
 const WCA_CONSTANTS_Q: [[f64; 4]; 3] = [
     [1.92840364363978, 4.43165896265079E-01, 0.0, 0.0],
