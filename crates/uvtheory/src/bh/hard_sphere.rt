@@ -11,6 +11,19 @@ ghost use Rattle.arithmetic.specs.Doubles.{guarded};
 ghost use Rattle.uvtheory.specs.Rows.{row, Row, parameters};
 ghost use Rattle.uvtheory.specs.Bh.HardSphere as F;
 
+pub const BH_CONSTANTS_ETA_B: [[f64; 2]; 3] = [
+    [-0.960919783, -0.921097447],
+    [-0.547468020, -3.508014069],
+    [-2.253750186, 3.581161364],
+];
+
+pub const BH_CONSTANTS_ETA_A: [[f64; 4]; 4] = [
+    [-1.217417282, 6.754987582, -0.5919326153, -28.99719604],
+    [1.579548775, -26.93879416, 0.3998915410, 106.9446266],
+    [-1.993990512, 44.11863355, -40.10916106, -29.6130848],
+    [0.0, 0.0, 0.0, 0.0],
+];
+
 // Of one component, by its reduced temperature t and coefficients c.
 fn diameter_of(t: f64, c: [f64; 5], rep: f64, sigma: f64) -> f64
     ensures { λ r. ⌜ r ≡ F.diameter-of guarded t (row c 0) (row c 1) (row c 2) (row c 3) (row c 4) rep sigma ⌝ }

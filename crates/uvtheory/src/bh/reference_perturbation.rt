@@ -1,4 +1,6 @@
 // uvtheory/eos/bh/reference_perturbation.rs: the reference perturbation (Mayer-f) by Barker-Henderson.
+use crate::bh::hard_sphere::BH_CONSTANTS_ETA_A;
+use crate::bh::hard_sphere::BH_CONSTANTS_ETA_B;
 use crate::bh::hard_sphere::tau;
 use crate::packing_fraction::packing_fraction;
 use crate::packing_fraction::packing_fraction_a;
@@ -16,19 +18,6 @@ ghost use Rattle.uvtheory.specs.Rows.{row, matrix, Row, parameters, stat
 ghost use Rattle.uvtheory.specs.Held.{CombinedOf};
 ghost use Rattle.uvtheory.specs.Bh.HardSphere.{diameter-bh};
 ghost use Rattle.uvtheory.specs.Bh.ReferencePerturbation as F;
-
-const BH_CONSTANTS_ETA_B: [[f64; 2]; 3] = [
-    [-0.960919783, -0.921097447],
-    [-0.547468020, -3.508014069],
-    [-2.253750186, 3.581161364],
-];
-
-const BH_CONSTANTS_ETA_A: [[f64; 4]; 4] = [
-    [-1.217417282, 6.754987582, -0.5919326153, -28.99719604],
-    [1.579548775, -26.93879416, 0.3998915410, 106.9446266],
-    [-1.993990512, 44.11863355, -40.10916106, -29.6130848],
-    [0.0, 0.0, 0.0, 0.0],
-];
 
 // Of a pair of components.
 fn term(xi: f64, xj: f64, eta_a: f64, eta_b: f64, di: f64, dj: f64, sigma_ij: f64) -> f64

@@ -26,7 +26,7 @@ ghost use Rattle.uvtheory.specs.Parameters.{mie-prefactor};
 ghost use Rattle.uvtheory.specs.Wca.HardSphere.{diameter-wca};
 ghost use Rattle.uvtheory.specs.Wca.AttractivePerturbation as F;
 
-const C_WCA: [[f64; 6]; 6] = [
+pub const C_WCA: [[f64; 6]; 6] = [
     [
         -0.2622378162,
         0.6585817423,

@@ -10,9 +10,12 @@ use crate::parameters::Mixture;
 use crate::parameters::State;
 use crate::parameters::mean_field_of;
 use crate::parameters::mie_prefactor;
+use crate::wca::attractive_perturbation::C_WCA;
 use crate::wca::attractive_perturbation::delta_a1u;
 use crate::wca::attractive_perturbation::delta_b12u;
 use crate::wca::hard_sphere::LengthTables;
+use crate::wca::hard_sphere::WCA_CONSTANTS_ETA_A_UVB3;
+use crate::wca::hard_sphere::WCA_CONSTANTS_ETA_B_UVB3;
 use crate::wca::hard_sphere::q_of;
 use crate::wca::hard_sphere::rm_of;
 use elementary::basic::div;
@@ -29,16 +32,6 @@ ghost use Rattle.uvtheory.specs.Held.{CombinedOf, Symmetric};
 ghost use Rattle.uvtheory.specs.Lengths.{LengthsOf};
 ghost use Rattle.uvtheory.specs.Wca.HardSphere.{diameter-wca};
 ghost use Rattle.uvtheory.specs.Wca.AttractivePerturbationUvb3 as F;
-
-// The first row of C_WCA.
-const C_WCA_0: [f64; 6] = [
-    -0.2622378162,
-    0.6585817423,
-    5.5318022309,
-    0.6902354794,
-    -3.6825190645,
-    -1.7263213318,
-];
 
 // Constants for delta B2 RSAP
 const C_B2_RSAP: [[f64; 4]; 4] = [
@@ -75,11 +68,6 @@ const L_B3: [f64; 4] = [4.9485, -21.3, 7.0, 3.2162];
 const M_B3: [f64; 4] = [0.11853, 0.078556, -0.55039, 0.009163];
 
 const CU_WCA: [f64; 8] = [26.454, 1.8045, 1.7997, 161.96, 11.605, 12.0, 0.4, 2.0];
-
-// The first rows of WCA_CONSTANTS_ETA_A_UVB3 and WCA_CONSTANTS_ETA_B_UVB3.
-const ETA_A_0: [f64; 4] = [2.64043218, -1.2184421, -22.90786387, 0.96433414];
-
-const ETA_B_0: [f64; 2] = [2.19821588, -20.45005484];
 
 // 2! to 15!, and 2 to 15.
 const FACTORIALS: [f64; 14] = [
@@ -185,10 +173,8 @@ fn delta_b31u(t_x: f64, weighted_sigma3_ij: f64, rm_x: f64, nu: f64, c: f64, d_x
     let tau = rm_x - d_x;
     let r1 = div(1.0, nu);
     let r2 = div(1.0, nu * nu);
-    let k1 = r1 * C_WCA_0[1]
-        + r2 * C_WCA_0[2]
-        + C_WCA_0[0]
-        + (r1 * C_WCA_0[4] + r2 * C_WCA_0[5] + C_WCA_0[3]) * tau;
+    let k = C_WCA[0];
+    let k1 = r1 * k[1] + r2 * k[2] + k[0] + (r1 * k[4] + r2 * k[5] + k[3]) * tau;
     div(1.0, t_x) * 4.0 * c * PI * k1 * (weighted_sigma3_ij * weighted_sigma3_ij)
 }
 
@@ -214,9 +200,10 @@ fn b30_uv(rm_x: f64, rep_x: f64, d_x: f64, q_x: f64) -> f64
     let tau = -d_x + rm_x;
     let tau2 = tau * tau;
     let rep_inv = div(1.0, rep_x);
-    let c1_eta_a = tau * (rep_inv * ETA_A_0[1] + ETA_A_0[0])
-        + tau2 * (rep_inv * ETA_A_0[3] + ETA_A_0[2]);
-    let c1_eta_b = tau * ETA_B_0[0] + tau2 * ETA_B_0[1];
+    let a = WCA_CONSTANTS_ETA_A_UVB3[0];
+    let b = WCA_CONSTANTS_ETA_B_UVB3[0];
+    let c1_eta_a = tau * (rep_inv * a[1] + a[0]) + tau2 * (rep_inv * a[3] + a[2]);
+    let c1_eta_b = tau * b[0] + tau2 * b[1];
     let d3 = d_x * d_x * d_x;
     let rm3 = rm_x * rm_x * rm_x;
     ten_volumes(d_x)
