@@ -1,7 +1,7 @@
 -- Arrays of the code as the functions that the formulas take. A mixture's row holds n values, and a matrix of n rows of n values stands row by row.
 use Prim.Native.Nat.{ℕ, _+_, _-_, _*_, _/_, _%_, _<_}
 use mathlib.Core.Path.{_≡_}
-use mathlib.Core.List.{List, []}
+use mathlib.Core.List.{List}
 use lib.ListN.{getD}
 use lib.Ieee.{Float, nan}
 use Rattle.arithmetic.specs.Arithmetic.{Arithmetic}
@@ -13,10 +13,6 @@ use Rattle.uvtheory.specs.OneFluid.{OneFluid}
 
 abbrev pub row : List Float → ℕ → Float
 row xs i = getD xs i nan
-
--- an array of arrays
-abbrev pub table : List (List Float) → ℕ → ℕ → Float
-table rows k i = getD (getD rows k []) i nan
 
 abbrev pub matrix : ℕ → List Float → ℕ → ℕ → Float
 matrix n xs i j = getD xs (i * n + j) nan

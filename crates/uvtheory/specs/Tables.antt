@@ -6,8 +6,9 @@ use lib.ListN.{getD}
 use lib.Ieee.{Float, nan}
 use Rattle.arithmetic.specs.Constants.{bits}
 
-abbrev entry : List (List Float) → ℕ → ℕ → Float
-entry rows i j = getD (getD rows i []) j nan
+-- an array of arrays as the function that the formulas take
+abbrev pub table : List (List Float) → ℕ → ℕ → Float
+table rows i j = getD (getD rows i []) j nan
 
 -- ---- uvtheory/parameters.rs
 abbrev pub cd-bh : List (List Float)
@@ -19,7 +20,7 @@ cd-bh =
     []
 
 abbrev pub CD-BH : ℕ → ℕ → Float
-CD-BH = entry cd-bh
+CD-BH = table cd-bh
 
 -- ---- uvtheory/eos/bh/hard_sphere.rs
 abbrev pub bh-constants-eta-b : List (List Float)
@@ -30,7 +31,7 @@ bh-constants-eta-b =
     []
 
 abbrev pub BH-CONSTANTS-ETA-B : ℕ → ℕ → Float
-BH-CONSTANTS-ETA-B = entry bh-constants-eta-b
+BH-CONSTANTS-ETA-B = table bh-constants-eta-b
 
 abbrev pub bh-constants-eta-a : List (List Float)
 bh-constants-eta-a =
@@ -41,7 +42,7 @@ bh-constants-eta-a =
     []
 
 abbrev pub BH-CONSTANTS-ETA-A : ℕ → ℕ → Float
-BH-CONSTANTS-ETA-A = entry bh-constants-eta-a
+BH-CONSTANTS-ETA-A = table bh-constants-eta-a
 
 -- ---- uvtheory/eos/bh/attractive_perturbation.rs
 abbrev pub c-bh : List (List Float)
@@ -51,7 +52,7 @@ c-bh =
     []
 
 abbrev pub C-BH : ℕ → ℕ → Float
-C-BH = entry c-bh
+C-BH = table c-bh
 
 abbrev pub cu-bh : List (List Float)
 cu-bh =
@@ -62,7 +63,7 @@ cu-bh =
     []
 
 abbrev pub CU-BH : ℕ → ℕ → Float
-CU-BH = entry cu-bh
+CU-BH = table cu-bh
 
 abbrev pub c2-bh : List (List Float)
 c2-bh =
@@ -72,7 +73,7 @@ c2-bh =
     []
 
 abbrev pub C2-BH : ℕ → ℕ → Float
-C2-BH = entry c2-bh
+C2-BH = table c2-bh
 
 -- ---- uvtheory/eos/wca/hard_sphere.rs
 abbrev pub wca-constants-q : List (List Float)
@@ -83,7 +84,7 @@ wca-constants-q =
     []
 
 abbrev pub WCA-CONSTANTS-Q : ℕ → ℕ → Float
-WCA-CONSTANTS-Q = entry wca-constants-q
+WCA-CONSTANTS-Q = table wca-constants-q
 
 abbrev pub wca-constants-eta-a : List (List Float)
 wca-constants-eta-a =
@@ -94,7 +95,7 @@ wca-constants-eta-a =
     []
 
 abbrev pub WCA-CONSTANTS-ETA-A : ℕ → ℕ → Float
-WCA-CONSTANTS-ETA-A = entry wca-constants-eta-a
+WCA-CONSTANTS-ETA-A = table wca-constants-eta-a
 
 abbrev pub wca-constants-eta-b : List (List Float)
 wca-constants-eta-b =
@@ -104,7 +105,7 @@ wca-constants-eta-b =
     []
 
 abbrev pub WCA-CONSTANTS-ETA-B : ℕ → ℕ → Float
-WCA-CONSTANTS-ETA-B = entry wca-constants-eta-b
+WCA-CONSTANTS-ETA-B = table wca-constants-eta-b
 
 abbrev pub wca-constants-eta-a-uvb3 : List (List Float)
 wca-constants-eta-a-uvb3 =
@@ -115,7 +116,7 @@ wca-constants-eta-a-uvb3 =
     []
 
 abbrev pub WCA-CONSTANTS-ETA-A-UVB3 : ℕ → ℕ → Float
-WCA-CONSTANTS-ETA-A-UVB3 = entry wca-constants-eta-a-uvb3
+WCA-CONSTANTS-ETA-A-UVB3 = table wca-constants-eta-a-uvb3
 
 abbrev pub wca-constants-eta-b-uvb3 : List (List Float)
 wca-constants-eta-b-uvb3 =
@@ -125,7 +126,7 @@ wca-constants-eta-b-uvb3 =
     []
 
 abbrev pub WCA-CONSTANTS-ETA-B-UVB3 : ℕ → ℕ → Float
-WCA-CONSTANTS-ETA-B-UVB3 = entry wca-constants-eta-b-uvb3
+WCA-CONSTANTS-ETA-B-UVB3 = table wca-constants-eta-b-uvb3
 
 -- ---- uvtheory/eos/wca/attractive_perturbation.rs
 abbrev pub c-wca : List (List Float)
@@ -139,7 +140,7 @@ c-wca =
     []
 
 abbrev pub C-WCA : ℕ → ℕ → Float
-C-WCA = entry c-wca
+C-WCA = table c-wca
 
 abbrev pub cu-wca : List Float
 cu-wca =
@@ -159,7 +160,7 @@ c2-wca =
     []
 
 abbrev pub C2-WCA : ℕ → ℕ → Float
-C2-WCA = entry c2-wca
+C2-WCA = table c2-wca
 
 -- ---- uvtheory/eos/wca/attractive_perturbation_uvb3.rs
 abbrev pub c-b2-rsap : List (List Float)
@@ -171,7 +172,7 @@ c-b2-rsap =
     []
 
 abbrev pub C-B2-RSAP : ℕ → ℕ → Float
-C-B2-RSAP = entry c-b2-rsap
+C-B2-RSAP = table c-b2-rsap
 
 abbrev pub k-lj-b3 : List Float
 k-lj-b3 =

@@ -4,7 +4,8 @@ use elementary::basic::div;
 ghost use mathlib.Core.Path.{_≡_};
 ghost use Prim.Native.Nat.{_≤_, _<_, _*_};
 ghost use Rattle.arithmetic.specs.Doubles.{guarded};
-ghost use Rattle.uvtheory.specs.Rows.{row, table};
+ghost use Rattle.uvtheory.specs.Tables.{table};
+ghost use Rattle.uvtheory.specs.Rows.{row};
 ghost use Rattle.uvtheory.specs.PackingFraction as F;
 
 pub fn packing_fraction(n: usize, partial_density: &[f64; 8], diameter: &[f64; 8]) -> f64

@@ -2,7 +2,8 @@ use mathlib.Core.Path.{_∙_}
 use Prim.Native.Nat.{ℕ, _*_, _/_, _%_}
 use lib.Ieee.{Float}
 use Rattle.arithmetic.specs.Doubles.{guarded}
-use Rattle.uvtheory.specs.Rows.{row, table, matrix, parameters}
+use Rattle.uvtheory.specs.Tables.{table}
+use Rattle.uvtheory.specs.Rows.{row, matrix, parameters}
 use Rattle.uvtheory.specs.PackingFraction as P
 use Rattle.uvtheory.specs.Wca.HardSphere.{rm-of, diameter-wca, dimensionless-length-scale, dimensionless-diameter-q-wca}
 use Rattle.uvtheory.specs.Wca.ReferencePerturbation as F

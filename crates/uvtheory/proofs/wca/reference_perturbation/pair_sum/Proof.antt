@@ -4,7 +4,8 @@ use native.Mathlib.Omega.{arith}
 use borrow.Author.Needs.{needs}
 use Rattle.arithmetic.specs.Arithmetic.{sumBy, powerBy}
 use Rattle.arithmetic.specs.Doubles.{guarded}
-use Rattle.uvtheory.specs.Rows.{row, matrix, table}
+use Rattle.uvtheory.specs.Tables.{table}
+use Rattle.uvtheory.specs.Rows.{row, matrix}
 use Rattle.uvtheory.specs.Wca.ReferencePerturbation as F
 use Rattle.uvtheory.proofs.Loops.{sum-step, at-pair, square-le, Bounds, pair-within}
 use Rattle.uvtheory.proofs.wca.reference_perturbation.pair_sum.Statement.{statement}
