@@ -2,12 +2,12 @@
 use lib.Ieee.{Float}
 use Rattle.arithmetic.specs.Doubles.{guarded}
 use Rattle.uvtheory.specs.declared.parameters.Mixture.{Mixture}
+use Rattle.uvtheory.specs.declared.wca.hard_sphere.ComponentLengths.{ComponentLengths}
 use Rattle.uvtheory.specs.declared.wca.hard_sphere.LengthTables.{LengthTables}
-use Rattle.uvtheory.specs.declared.wca.hard_sphere.Rows.{Rows}
 use Rattle.uvtheory.specs.Rows.{row, Row, Matrix, parameters}
 use Rattle.uvtheory.specs.Wca.HardSphere.{rm-of, diameter-wca, dimensionless-length-scale, dimensionless-diameter-q-wca}
 
-pub record RowsOf (m : Mixture) (t : Float) (r : Rows) : Type 0 where
+pub record ComponentLengthsOf (m : Mixture) (t : Float) (r : ComponentLengths) : Type 0 where
   pub rm-are : Row (m .n) (r .rm) (λ i. rm-of guarded (row (m .rep) i) (row (m .att) i))
   pub d-are : Row (m .n) (r .d) (diameter-wca guarded (parameters guarded m) t)
   pub length-are : Row (m .n) (r .length) (dimensionless-length-scale guarded (parameters guarded m) t)

@@ -10,7 +10,7 @@ ghost use Prim.Native.Nat.{_≤_, _<_, _*_};
 ghost use Rattle.arithmetic.specs.Doubles.{guarded};
 ghost use Rattle.uvtheory.specs.Rows.{row, matrix, Matrix};
 ghost use Rattle.uvtheory.specs.Held.{Symmetric};
-ghost use Rattle.uvtheory.specs.Lengths.{RowsOf};
+ghost use Rattle.uvtheory.specs.Lengths.{ComponentLengthsOf};
 ghost use Rattle.uvtheory.specs.Wca.HardSphere as F;
 
 const WCA_CONSTANTS_Q: [[f64; 4]; 3] = [
@@ -98,15 +98,15 @@ pub fn q_of(t_x: f64, nu: f64, n: f64, rs: f64) -> f64
 }
 
 // The place of the minimum, the diameter and the length of each component.
-pub struct Rows {
+pub struct ComponentLengths {
     pub rm: [f64; 8],
     pub d: [f64; 8],
     pub length: [f64; 8],
 }
 
-pub fn component_lengths(m: Mixture, temperature: f64) -> Rows
+pub fn component_lengths(m: Mixture, temperature: f64) -> ComponentLengths
     requires { ⌜ m .n ≤ 8 ⌝ }
-    ensures { λ r. ⌜ RowsOf m temperature r ⌝ }
+    ensures { λ r. ⌜ ComponentLengthsOf m temperature r ⌝ }
 {
     let n = m.n;
     let rep = m.rep;
@@ -125,7 +125,7 @@ pub fn component_lengths(m: Mixture, temperature: f64) -> Rows
         lengths[i] = -d + rm * sigma[i];
         i += 1;
     }
-    Rows {
+    ComponentLengths {
         rm: rms,
         d: ds,
         length: lengths,

@@ -6,8 +6,8 @@ use crate::parameters::Combined;
 use crate::parameters::Mixture;
 use crate::parameters::State;
 use crate::reference_energy::energy;
+use crate::wca::hard_sphere::ComponentLengths;
 use crate::wca::hard_sphere::LengthTables;
-use crate::wca::hard_sphere::Rows;
 use crate::wca::hard_sphere::tau;
 use elementary::basic::div;
 ghost use mathlib.Core.Path.{_≡_};
@@ -17,7 +17,7 @@ ghost use Rattle.arithmetic.specs.Sums.{pairs};
 ghost use Rattle.uvtheory.specs.Tables.{table};
 ghost use Rattle.uvtheory.specs.Rows.{row, matrix, parameters, state};
 ghost use Rattle.uvtheory.specs.Held.{CombinedOf};
-ghost use Rattle.uvtheory.specs.Lengths.{RowsOf, LengthsOf};
+ghost use Rattle.uvtheory.specs.Lengths.{ComponentLengthsOf, LengthsOf};
 ghost use Rattle.uvtheory.specs.Wca.ReferencePerturbation as F;
 
 // Of a pair of components.
@@ -126,11 +126,11 @@ pub fn helmholtz_energy_density(
     m: Mixture,
     s: State,
     c: Combined,
-    r: Rows,
+    r: ComponentLengths,
     l: LengthTables,
     density: f64,
 ) -> f64
-    requires { ⌜ (m .n ≤ 8) × CombinedOf m c × RowsOf m (s .temperature) r × LengthsOf m (s .temperature) l ⌝ }
+    requires { ⌜ (m .n ≤ 8) × CombinedOf m c × ComponentLengthsOf m (s .temperature) r × LengthsOf m (s .temperature) l ⌝ }
     requires { ⌜ density ≡ guarded .sum (m .n) (row (s .«partial_density»)) ⌝ }
     ensures { λ v. ⌜ v ≡ F.helmholtz-energy-density guarded (table ta) (table tb) (parameters guarded m) (state guarded s) ⌝ }
 {
