@@ -2,6 +2,7 @@
 use Prim.Native.Nat.{ℕ, zero, suc}
 use mathlib.Core.Bool.{cond}
 use lib.Dec.{ltb, eqb}
+use lib.Ieee.{Float}
 use Rattle.arithmetic.specs.Arithmetic.{Arithmetic}
 use Rattle.uvtheory.specs.Literals.{half, one, three, six, seven, minusTwo}
 use Rattle.uvtheory.specs.Tables.{CD-BH}
@@ -45,16 +46,23 @@ module _ (A : Arithmetic) where
   abbrev pub mean-field-constant : Value → Value → Value → Value
   mean-field-constant rep att x = mean-field-of (mie-prefactor rep att) rep att x
 
-  -- by the prefactor c of rep and att, and alpha. The coefficients 1 to 4 are `CD_BH` times (1, alpha, alpha²).
+  -- a row c of `CD_BH` times the vector (1, alpha, alpha²)
+  abbrev pub cd-bh-times : (ℕ → Float) → Value → Value
+  cd-bh-times c alpha = constant (c 0) * constant one + constant (c 1) * alpha + constant (c 2) * (alpha * alpha)
+
+  -- of rep 7, and of the att that the Rust gives, which is 6
+  abbrev pub inv-a76 : Value → Value
+  inv-a76 att = constant one / mean-field-constant (constant seven) att (constant one)
+
+  -- by the prefactor c of rep and att, and alpha
   unfoldable pub bh-coefficient : Value → Value → Value → Value → ℕ → Value
   bh-coefficient c alpha rep att zero = constant minusTwo * rep / ((att - rep) * c)
-  bh-coefficient c alpha rep att (suc k) = constant (CD-BH k 0) * constant one + constant (CD-BH k 1) * alpha + constant (CD-BH k 2) * (alpha * alpha)
+  bh-coefficient c alpha rep att (suc k) = cd-bh-times (CD-BH k) alpha
 
   abbrev pub bh-coefficients : Value → Value → ℕ → Value
   bh-coefficients rep att =
-      let inv-a76 = constant one / mean-field-constant (constant seven) att (constant one) in
       let am6 = mean-field-constant rep att (constant one) in
-      bh-coefficient (mie-prefactor rep att) (constant one / am6 - inv-a76) rep att
+      bh-coefficient (mie-prefactor rep att) (constant one / am6 - inv-a76 att) rep att
 
   -- `UVTheoryPars::new`
   abbrev pub new : ℕ → (ℕ → Value) → (ℕ → Value) → (ℕ → Value) → (ℕ → Value) → (ℕ → ℕ → Value) → UVTheoryPars Value

@@ -82,32 +82,32 @@ pub fn mean_field_constant(rep: f64, att: f64, x: f64) -> f64
 }
 
 // A row of CD_BH times (1, alpha, alpha^2).
-fn cd_bh(c: [f64; 3], alpha: f64) -> f64
-    ensures { λ r. ⌜ r ≡ guarded .add (guarded .add (guarded .mul (row c 0) N.one) (guarded .mul (row c 1) alpha)) (guarded .mul (row c 2) (guarded .mul alpha alpha)) ⌝ }
+fn cd_bh_times(c: [f64; 3], alpha: f64) -> f64
+    ensures { λ r. ⌜ r ≡ F.cd-bh-times guarded (row c) alpha ⌝ }
 {
     c[0] * 1.0 + c[1] * alpha + c[2] * (alpha * alpha)
 }
 
 // The reciprocal that every substance's alpha is taken from: of rep 7 and att 6.
 pub fn inv_a76() -> f64
-    ensures { λ r. ⌜ r ≡ guarded .div N.one (F.mean-field-constant guarded N.seven N.six N.one) ⌝ }
+    ensures { λ r. ⌜ r ≡ F.inv-a76 guarded N.six ⌝ }
 {
     div(1.0, mean_field_constant(7.0, 6.0, 1.0))
 }
 
 // The coefficients of a substance for att 6, whatever att was sent.
 pub fn bh_coefficients(rep: f64, inv_a76: f64) -> [f64; 5]
-    requires { ⌜ «inv_a76» ≡ guarded .div N.one (F.mean-field-constant guarded N.seven N.six N.one) ⌝ }
+    requires { ⌜ «inv_a76» ≡ F.inv-a76 guarded N.six ⌝ }
     ensures { λ r. ⌜ r ≡ F.bh-coefficients guarded rep N.six 0 ∷ F.bh-coefficients guarded rep N.six 1 ∷ F.bh-coefficients guarded rep N.six 2 ∷ F.bh-coefficients guarded rep N.six 3 ∷ F.bh-coefficients guarded rep N.six 4 ∷ [] ⌝ }
 {
     let c = mie_prefactor(rep, 6.0);
     let alpha = div(1.0, mean_field_of(c, rep, 6.0, 1.0)) - inv_a76;
     [
         div(-2.0 * rep, (6.0 - rep) * c),
-        cd_bh(CD_BH[0], alpha),
-        cd_bh(CD_BH[1], alpha),
-        cd_bh(CD_BH[2], alpha),
-        cd_bh(CD_BH[3], alpha),
+        cd_bh_times(CD_BH[0], alpha),
+        cd_bh_times(CD_BH[1], alpha),
+        cd_bh_times(CD_BH[2], alpha),
+        cd_bh_times(CD_BH[3], alpha),
     ]
 }
 
