@@ -1,6 +1,7 @@
 // one_fluid_properties, which bh/attractive_perturbation.rs and wca/attractive_perturbation.rs have word for word, and the sums over pairs of the virial coefficients.
 use crate::parameters::Combined;
 use elementary::basic::div;
+use elementary::basic::powi;
 use elementary::exponential::powf;
 ghost use mathlib.Core.Path.{_≡_};
 ghost use Prim.Native.Nat.{_≤_, _<_, _*_};
@@ -62,32 +63,16 @@ pub fn weighted_sigma3(n: usize, x: &[f64; 8], sigma_ij: &[f64; 64]) -> f64
     sum
 }
 
-// x_i x_j sigma_ij^3 f_ij, over all pairs.
-pub fn virial_sum(n: usize, x: &[f64; 8], sigma_ij: &[f64; 64], f: &[f64; 64]) -> f64
+// x_i x_j sigma_ij^k f_ij, over all pairs.
+pub fn virial_sum(n: usize, x: &[f64; 8], sigma_ij: &[f64; 64], k: u64, f: &[f64; 64]) -> f64
     requires { ⌜ n ≤ 8 ⌝ }
-    ensures { λ r. ⌜ r ≡ F.virial-sum guarded n (row (now (x .entry))) (matrix n (now («sigma_ij» .entry))) 3 (matrix n (now (f .entry))) ⌝ }
+    ensures { λ r. ⌜ r ≡ F.virial-sum guarded n (row (now (x .entry))) (matrix n (now («sigma_ij» .entry))) k (matrix n (now (f .entry))) ⌝ }
 {
     let mut sum = 0.0;
-    let mut k = 0;
-    while k < n * n {
-        let s = sigma_ij[k];
-        sum = sum + x[k / n] * x[k % n] * (s * s * s) * f[k];
-        k += 1;
-    }
-    sum
-}
-
-// x_i x_j sigma_ij^6 f_ij, over all pairs.
-pub fn third_virial_sum(n: usize, x: &[f64; 8], sigma_ij: &[f64; 64], f: &[f64; 64]) -> f64
-    requires { ⌜ n ≤ 8 ⌝ }
-    ensures { λ r. ⌜ r ≡ F.virial-sum guarded n (row (now (x .entry))) (matrix n (now («sigma_ij» .entry))) 6 (matrix n (now (f .entry))) ⌝ }
-{
-    let mut sum = 0.0;
-    let mut k = 0;
-    while k < n * n {
-        let s = sigma_ij[k];
-        sum = sum + x[k / n] * x[k % n] * (s * s * s * s * s * s) * f[k];
-        k += 1;
+    let mut ij = 0;
+    while ij < n * n {
+        sum = sum + x[ij / n] * x[ij % n] * powi(sigma_ij[ij], k) * f[ij];
+        ij += 1;
     }
     sum
 }
@@ -120,7 +105,10 @@ pub fn one_fluid_properties(
         att: pair_mean(n, x, &att_ij),
         sigma: sigma_x,
         weighted_sigma3_ij,
-        epsilon_k: div(virial_sum(n, x, &sigma_ij, &eps_k_ij), weighted_sigma3_ij),
+        epsilon_k: div(
+            virial_sum(n, x, &sigma_ij, 3, &eps_k_ij),
+            weighted_sigma3_ij,
+        ),
         d: div(cube_root(mean_cube(n, x, d)), sigma_x),
     }
 }

@@ -291,6 +291,6 @@ pub fn helmholtz_energy_density(
     let sigma_ij = c.sigma_ij;
     let o = one_fluid_properties(n, c, &sigma, &x, d);
     let b2 = delta_b2_ij(n, c, t, l);
-    let b2bar = virial_sum(n, &x, &sigma_ij, &b2);
+    let b2bar = virial_sum(n, &x, &sigma_ij, 3, &b2);
     energy(o, t, density, density * mean_cube(n, &x, &sigma), b2bar)
 }

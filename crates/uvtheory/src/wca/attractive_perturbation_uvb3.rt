@@ -3,7 +3,6 @@ use crate::consts::PI;
 use crate::one_fluid::OneFluid;
 use crate::one_fluid::mean_cube;
 use crate::one_fluid::one_fluid_properties;
-use crate::one_fluid::third_virial_sum;
 use crate::one_fluid::virial_sum;
 use crate::parameters::Combined;
 use crate::parameters::Mixture;
@@ -396,9 +395,9 @@ pub fn helmholtz_energy_density(
     let sigma_ij = c.sigma_ij;
     let o = one_fluid_properties(n, c, &sigma, &x, d);
     let b2 = delta_b2_ij(n, c, t, l);
-    let b2bar = virial_sum(n, &x, &sigma_ij, &b2);
+    let b2bar = virial_sum(n, &x, &sigma_ij, 3, &b2);
     let b3 = delta_b3_ij(n, c, t, l, d, &sigma);
-    let b3bar = third_virial_sum(n, &x, &sigma_ij, &b3);
+    let b3bar = virial_sum(n, &x, &sigma_ij, 6, &b3);
     energy(
         o,
         t,

@@ -1,8 +1,8 @@
-use Prim.Native.Nat.{ℕ, _≤_, _-_, _*_, _/_, _%_}
-use mathlib.Core.Path.{_≡_, refl, ap, _∙_}
+use Prim.Native.Nat.{_≤_, _-_, _*_, _/_, _%_}
+use mathlib.Core.Path.{_≡_, refl}
 use native.Mathlib.Omega.{arith}
 use borrow.Author.Needs.{needs}
-use Rattle.arithmetic.specs.Arithmetic.{sumBy, powerBy}
+use Rattle.arithmetic.specs.Arithmetic.{sumBy}
 use Rattle.arithmetic.specs.Doubles.{guarded}
 use Rattle.uvtheory.specs.Rows.{row, matrix}
 use Rattle.uvtheory.specs.OneFluid as F
@@ -11,29 +11,25 @@ use Rattle.uvtheory.proofs.one_fluid.virial_sum.Statement.{statement}
 use Rattle.uvtheory.proofs.one_fluid.virial_sum.Tie as tie
 
 abbrev Inv-loop : tie.InvT-loop
-Inv-loop n x sigma-ij f sum₀ k₀ sum k = (k ≤ n * n) × (sum ≡ guarded .sum k (λ l. guarded .mul (guarded .mul (guarded .mul (row x (l / n)) (row x (l % n))) (guarded .powi (matrix (n) sigma-ij (l / n) (l % n)) 3)) (matrix n f (l / n) (l % n))))
+Inv-loop n x sigma-ij k f sum₀ ij₀ sum ij = (ij ≤ n * n) × (sum ≡ guarded .sum ij (λ l. guarded .mul (guarded .mul (guarded .mul (row x (l / n)) (row x (l % n))) (guarded .powi (matrix n sigma-ij (l / n) (l % n)) k)) (matrix n f (l / n) (l % n))))
 
 abbrev μ-loop : tie.MeasureT-loop
-μ-loop n x sigma-ij f sum₀ k₀ sum k = n * n - k
+μ-loop n x sigma-ij k f sum₀ ij₀ sum ij = n * n - ij
 
 -- what the bounds of every access follow from
-inside : (c : tie.In-loop Inv-loop μ-loop) → Bounds (c .before .before .args .n) (c .before .loop .k)
-inside c = pair-within (c .before .before .args .n) (c .before .loop .k) (c .before .before .pre) (omega arith)
+inside : (c : tie.In-loop Inv-loop μ-loop) → Bounds (c .before .before .args .n) (c .before .loop .ij)
+inside c = pair-within (c .before .before .args .n) (c .before .loop .ij) (c .before .before .pre) (omega arith)
 
 loop-holds : tie.Need-loop-holds Inv-loop μ-loop
 unfolding sumBy
 loop-holds c = (omega arith, refl)
 
 loop-again : tie.Need-loop-again Inv-loop μ-loop
-unfolding powerBy F.weighted-pairs
-loop-again c = (
-  omega arith,
-  rw (c .before .before .before .before .before .loop .inv .1, sum-step, at-pair),
-)
+loop-again c = (omega arith, rw (c .before .powi .ensures, c .before .before .before .before .before .before .loop .inv .1, sum-step, at-pair))
 
 returns : tie.Need-returns Inv-loop μ-loop
 unfolding F.weighted-pairs
-returns c = let e : c .before .loop .k ≡ c .before .before .args .n * c .before .before .args .n = omega arith in c .before .loop .inv .1 ∙ ap (λ (m : ℕ). guarded .sum m (λ l. guarded .mul (guarded .mul (guarded .mul (row (c .before .before .args .x .now) (l / c .before .before .args .n)) (row (c .before .before .args .x .now) (l % c .before .before .args .n))) (guarded .powi (matrix (c .before .before .args .n) (c .before .before .args .sigma-ij .now) (l / c .before .before .args .n) (l % c .before .before .args .n)) 3)) (matrix (c .before .before .args .n) (c .before .before .args .f .now) (l / c .before .before .args .n) (l % c .before .before .args .n)))) e
+returns c = let e : c .before .loop .ij ≡ c .before .before .args .n * c .before .before .args .n = omega arith in rw e at (c .before .loop .inv .1)
 
 pub virial-sum-spec : {M : Type 1} → statement M
-virial-sum-spec = tie.close (tie.spec Inv-loop μ-loop loop-holds (λ c. omega (arith, square-le (c .before .args .n) (c .before .pre))) (λ c. omega (arith, inside c)) (λ c. omega (arith, inside c)) (λ c. omega (arith, inside (c .before))) (λ c. omega (arith, inside (c .before))) (λ c. omega (arith, inside (c .before))) (λ c. omega (arith, inside (c .before .before))) (λ c. omega (arith, inside (c .before .before))) (λ c. omega (arith, inside (c .before .before))) (λ c. omega (arith, inside (c .before .before .before))) (λ c. omega (arith, inside (c .before .before .before))) (λ c. omega (arith, inside (c .before .before .before .before))) (λ c. search needs) loop-again returns)
+virial-sum-spec = tie.close (tie.spec Inv-loop μ-loop loop-holds (λ c. omega (arith, square-le (c .before .args .n) (c .before .pre))) (λ c. omega (arith, inside c)) (λ c. omega (arith, inside c)) (λ c. omega (arith, inside c)) (λ c. omega (arith, inside (c .before))) (λ c. omega (arith, inside (c .before))) (λ c. omega (arith, inside (c .before))) (λ c. omega (arith, inside (c .before .before))) (λ c. omega (arith, inside (c .before .before))) (λ c κs. tt) (λ c. omega (arith, inside (c .before .before .before .before))) (λ c. omega (arith, inside (c .before .before .before .before))) (λ c. omega (arith, inside (c .before .before .before .before .before))) (λ c. search needs) loop-again returns)

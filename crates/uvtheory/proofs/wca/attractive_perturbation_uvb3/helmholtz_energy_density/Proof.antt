@@ -39,7 +39,7 @@ returns c =
       start .pre .0 .3 (k / n) (row-of n k l),
       start .pre .0 .3 (k % n) (column-of n k l),
     )) in
-    c .energy .ensures ∙ rw (c .before .before .before .before .before .before .before .before .before .before .before .before .before .before .before .one-fluid-properties .ensures, one-fluid, c .before .mean-cube .ensures, c .before .before .before .before .before .before .before .before .before .before .virial-sum .ensures, virial, c .before .before .before .before .third-virial-sum .ensures, third, start .pre .1)
+    c .energy .ensures ∙ rw (c .before .before .before .before .before .before .before .before .before .before .before .before .before .before .before .one-fluid-properties .ensures, one-fluid, c .before .mean-cube .ensures, c .before .before .before .before .before .before .before .before .before .before .virial-sum .ensures, virial, c .before .before .before .before .virial-sum2 .ensures, third, start .pre .1)
 
 pub helmholtz-energy-density-spec : {M : Type 1} → statement M
 helmholtz-energy-density-spec = tie.close (tie.spec (λ c κs. c .before .before .before .before .before .pre .0 .0) (λ c κs. let start = c .before .before .before .before .before .before in let h = start .pre .0 .1 in let l = start .pre .0 .2 in (start .pre .0 .0, rep-symmetric h, epsilon-symmetric h, q-symmetric l, rm-symmetric l)) (λ c κs. c .before .before .before .before .before .before .before .before .before .before .pre .0 .0) (λ c κs. c .before .before .before .before .before .before .before .before .before .before .before .before .pre .0 .0) (λ c κs. c .before .before .before .before .before .before .before .before .before .before .before .before .before .before .before .before .pre .0 .0) (λ c κs. c .before .before .before .before .before .before .before .before .before .before .before .before .before .before .before .before .before .before .before .pre .0 .0) (λ c κs. tt) returns)
