@@ -1,6 +1,6 @@
 -- uvtheory/eos/wca/attractive_perturbation_uvb3.rs: the attractive perturbation of WCA-B3. `C_WCA`, `delta_b12u`, `correlation_integral_wca` and `coefficients_wca` are
 -- those of attractive_perturbation.rs, word for word; `u_fraction_wca` and `delta_b2` are its own.
-use Prim.Native.Nat.{ℕ, zero, suc}
+use Prim.Native.Nat.{ℕ, zero, suc, _+_ as _+ℕ_, _*_ as _×ℕ_}
 use lib.Ieee.{Float}
 use Rattle.arithmetic.specs.Arithmetic.{Arithmetic}
 use Rattle.arithmetic.specs.Sums.{recip}
@@ -74,11 +74,12 @@ module _ (A : Arithmetic) where
       let k1 = recip A nu * c 1 + recip A (nu ^ 2) * c 2 + c 0 + (recip A nu * c 4 + recip A (nu ^ 2) * c 5 + c 3) * tau in
       recip A t-x * constant N.four * p * constant N.PI * k1 * weighted-sigma3-ij ^ 2
 
-  -- b31 to b34, by four entries of `K_LJ_B3` and one of each other table
-  unfoldable pub b3-term : Float → Float → Float → Float → Float → Float → Float → Value → Value → Value
-  b3-term k0 k1 k2 k3 m l p t-x rep-x =
+  -- b31 to b34, for i from 0: by four entries of `K_LJ_B3` and one of each other table
+  unfoldable pub b3-term : ℕ → Value → Value → Value
+  b3-term i t-x rep-x =
+      let k : ℕ → Value = λ j. constant (K-LJ-B3 (4 ×ℕ i +ℕ j)) in
       let r = rep-x - constant N.twelve in
-      recip A (powf (t-x + constant k2) ((r / (rep-x - constant N.six) * constant m + one) * constant k3)) * constant k1 * (r / (rep-x - constant l) * constant p + one) + constant k0
+      recip A (powf (t-x + k 2) ((r / (rep-x - constant N.six) * constant (M-B3 i) + one) * k 3)) * k 1 * (r / (rep-x - constant (L-B3 i)) * constant (P-B3 i) + one) + constant (K-LJ-B3 (4 ×ℕ i))
 
   -- ten times the square of the volume of a sphere
   unfoldable pub ten-volumes : Value → Value
@@ -101,10 +102,10 @@ module _ (A : Arithmetic) where
   delta-b3 t-x rm-x rep-x d-x q-x =
       let beta = recip A t-x in
       ten-volumes q-x
-      + b3-term (K-LJ-B3 0) (K-LJ-B3 1) (K-LJ-B3 2) (K-LJ-B3 3) (M-B3 0) (L-B3 0) (P-B3 0) t-x rep-x * beta
-      + b3-term (K-LJ-B3 4) (K-LJ-B3 5) (K-LJ-B3 6) (K-LJ-B3 7) (M-B3 1) (L-B3 1) (P-B3 1) t-x rep-x * beta ^ 2
-      + b3-term (K-LJ-B3 8) (K-LJ-B3 9) (K-LJ-B3 10) (K-LJ-B3 11) (M-B3 2) (L-B3 2) (P-B3 2) t-x rep-x * beta ^ 3
-      + b3-term (K-LJ-B3 12) (K-LJ-B3 13) (K-LJ-B3 14) (K-LJ-B3 15) (M-B3 3) (L-B3 3) (P-B3 3) t-x rep-x * beta ^ 4
+      + b3-term 0 t-x rep-x * beta
+      + b3-term 1 t-x rep-x * beta ^ 2
+      + b3-term 2 t-x rep-x * beta ^ 3
+      + b3-term 3 t-x rep-x * beta ^ 4
       - b30-uv rm-x rep-x d-x q-x
 
   -- of the pair (i, j)

@@ -177,12 +177,16 @@ fn delta_b31u(t_x: f64, weighted_sigma3_ij: f64, rm_x: f64, nu: f64, c: f64, d_x
     div(1.0, t_x) * 4.0 * c * PI * k1 * (weighted_sigma3_ij * weighted_sigma3_ij)
 }
 
-fn b3_term(k: [f64; 4], m: f64, l: f64, p: f64, t_x: f64, rep_x: f64) -> f64
-    ensures { λ r. ⌜ r ≡ F.b3-term guarded (row k 0) (row k 1) (row k 2) (row k 3) m l p «t_x» «rep_x» ⌝ }
+// b31 to b34, for i from 0: by four entries of K_LJ_B3 and one of each other table.
+fn b3_term(i: usize, t_x: f64, rep_x: f64) -> f64
+    requires { ⌜ i < 4 ⌝ }
+    ensures { λ r. ⌜ r ≡ F.b3-term guarded i «t_x» «rep_x» ⌝ }
 {
+    let k = K_LJ_B3;
     let r = rep_x - 12.0;
-    let e = (div(r, rep_x - 6.0) * m + 1.0) * k[3];
-    div(1.0, powf(t_x + k[2], e)) * k[1] * (div(r, rep_x - l) * p + 1.0) + k[0]
+    let e = (div(r, rep_x - 6.0) * M_B3[i] + 1.0) * k[4 * i + 3];
+    let s = div(r, rep_x - L_B3[i]) * P_B3[i] + 1.0;
+    div(1.0, powf(t_x + k[4 * i + 2], e)) * k[4 * i + 1] * s + k[4 * i]
 }
 
 // Ten times the square of the volume of a sphere.
@@ -217,38 +221,10 @@ pub fn delta_b3(t_x: f64, rm_x: f64, rep_x: f64, d_x: f64, q_x: f64) -> f64
     let beta = div(1.0, t_x);
     let beta2 = beta * beta;
     let beta3 = beta2 * beta;
-    let b31 = b3_term(
-        [K_LJ_B3[0], K_LJ_B3[1], K_LJ_B3[2], K_LJ_B3[3]],
-        M_B3[0],
-        L_B3[0],
-        P_B3[0],
-        t_x,
-        rep_x,
-    );
-    let b32 = b3_term(
-        [K_LJ_B3[4], K_LJ_B3[5], K_LJ_B3[6], K_LJ_B3[7]],
-        M_B3[1],
-        L_B3[1],
-        P_B3[1],
-        t_x,
-        rep_x,
-    );
-    let b33 = b3_term(
-        [K_LJ_B3[8], K_LJ_B3[9], K_LJ_B3[10], K_LJ_B3[11]],
-        M_B3[2],
-        L_B3[2],
-        P_B3[2],
-        t_x,
-        rep_x,
-    );
-    let b34 = b3_term(
-        [K_LJ_B3[12], K_LJ_B3[13], K_LJ_B3[14], K_LJ_B3[15]],
-        M_B3[3],
-        L_B3[3],
-        P_B3[3],
-        t_x,
-        rep_x,
-    );
+    let b31 = b3_term(0, t_x, rep_x);
+    let b32 = b3_term(1, t_x, rep_x);
+    let b33 = b3_term(2, t_x, rep_x);
+    let b34 = b3_term(3, t_x, rep_x);
     ten_volumes(q_x) + b31 * beta + b32 * beta2 + b33 * beta3 + b34 * (beta3 * beta)
         - b30_uv(rm_x, rep_x, d_x, q_x)
 }

@@ -10,4 +10,4 @@ unfolding F.delta-b3 powerBy
 returns c = simp (c .b30-uv .ensures, c .before .ten-volumes .ensures, c .before .before .b3-term4 .ensures, c .before .before .before .b3-term3 .ensures, c .before .before .before .before .b3-term2 .ensures, c .before .before .before .before .before .b3-term .ensures, c .before .before .before .before .before .before .div .ensures) refl
 
 pub delta-b3-spec : {M : Type 1} → statement M
-delta-b3-spec = tie.close (tie.spec (λ c κs. tt) (λ c. search needs) (λ c. search needs) (λ c. search needs) (λ c. search needs) (λ c. search needs) (λ c. search needs) (λ c. search needs) (λ c κs. tt) (λ c. search needs) (λ c. search needs) (λ c. search needs) (λ c. search needs) (λ c. search needs) (λ c. search needs) (λ c. search needs) (λ c κs. tt) (λ c. search needs) (λ c. search needs) (λ c. search needs) (λ c. search needs) (λ c. search needs) (λ c. search needs) (λ c. search needs) (λ c κs. tt) (λ c. search needs) (λ c. search needs) (λ c. search needs) (λ c. search needs) (λ c. search needs) (λ c. search needs) (λ c. search needs) (λ c κs. tt) (λ c κs. tt) (λ c κs. tt) returns)
+delta-b3-spec = tie.close (tie.spec (λ c κs. tt) (λ c κs. search needs) (λ c κs. search needs) (λ c κs. search needs) (λ c κs. search needs) (λ c κs. tt) (λ c κs. tt) returns)
