@@ -1,15 +1,14 @@
 // The checks 2 to 8 of a record.
 ghost use mathlib.Core.Path.{_≡_};
 ghost use Prim.Native.Nat.{_≤_};
-ghost use lib.ListN.{length, getD};
-ghost use lib.Ieee.{nan};
-ghost use Rattle.arithmetic.specs.Doubles.{guarded};
+ghost use lib.ListN.{length};
 ghost use Rattle.case_record.specs.Checks.{allInside, inside, refusalOf, state, substances};
 use crate::bytes::big_endian2;
 use crate::case::length_of;
 use crate::case::mixture_of;
 use crate::case::pairs;
 use crate::case::state_of;
+use uvtheory::hard_sphere::sum;
 use uvtheory::parameters::Mixture;
 use uvtheory::parameters::State;
 
@@ -53,18 +52,6 @@ fn all_inside(i: Interval, n: usize, values: &[f64]) -> bool
     all
 }
 
-// The vector sum: left to right from +0.
-fn vector_sum(n: usize, values: &[f64]) -> f64
-    requires { ⌜ n ≤ length (now values) ⌝ }
-    ensures { λ r. ⌜ r ≡ guarded .sum n (λ k. getD (now (values .entry)) k nan) ⌝ }
-{
-    let mut sum = 0.0;
-    for k in 0..n {
-        sum = sum + values[k];
-    }
-    sum
-}
-
 // The check 7.
 fn substances_inside(m: Mixture) -> bool
     requires { ⌜ m .n ≤ 8 ⌝ }
@@ -93,7 +80,7 @@ fn state_inside(n: usize, t: State) -> bool
     inside(TEMPERATURE, t.temperature)
         & all_inside(DENSITY, n, &density)
         & all_inside(FRACTION, n, &fraction)
-        & inside(FRACTION_SUM, vector_sum(n, &fraction))
+        & inside(FRACTION_SUM, sum(n, &fraction))
 }
 
 // The code of the first check that fails, or 0. Only the bytes that the checks before it have shown to be there are read.

@@ -15,7 +15,7 @@ returns : tie.Need-returns
 unfolding state
 returns c =
     simp
-    (c .inside2 .ensures, c .before .vector-sum .ensures, c .before .before .before .all-inside2 .ensures, c .before .before .before .before .before .all-inside .ensures, c .before .before .before .before .before .before .before .inside .ensures)
+    (c .inside2 .ensures, c .before .sum .ensures, c .before .before .before .all-inside2 .ensures, c .before .before .before .before .before .all-inside .ensures, c .before .before .before .before .before .before .before .inside .ensures)
 
 pub state-inside-spec : {M : Type 1} → statement M
 state-inside-spec =
@@ -26,7 +26,6 @@ state-inside-spec =
     (λ c κs. omega (arith, sizes (c .before .before .before .before)))
     (λ c. search needs)
     (λ c κs. omega (arith, sizes (c .before .before .before .before .before .before)))
-    (λ c. search needs)
-    (λ c κs. omega (arith, sizes (c .before .before .before .before .before .before .before .before)))
+    (λ c κs. search needs)
     (λ c κs. search needs)
     returns)
