@@ -3,9 +3,3 @@ pub mod answer;
 pub mod bytes;
 pub mod case;
 pub mod checks;
-
-pub use answer::Energies;
-pub use answer::write_answer;
-pub use case::Case;
-pub use case::case_of;
-pub use checks::refusal;

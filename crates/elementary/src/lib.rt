@@ -7,5 +7,3 @@ pub mod logarithm;
 pub mod next;
 pub mod parts;
 pub mod root;
-
-pub use basic::is_finite;
