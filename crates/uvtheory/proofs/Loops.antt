@@ -31,14 +31,14 @@ column-of n k h = mod-lt k (some-rows n k h)
 pub at-pair : (n k : ℕ) → k / n * n + k % n ≡ k
 at-pair n k = div-add-mod' k n
 
-pub pair-row : (n i j : ℕ) → j < n → (i * n + j) / n ≡ i
+pair-row : (n i j : ℕ) → j < n → (i * n + j) / n ≡ i
 pair-row n i j h = div-eq-of-lt-le n (let z : i * n ≤ i * n + j = omega arith in z) (let z : i * n + j < (i + 1) * n = omega (arith, add-mul i 1 n) in z)
 
-pub pair-column : (n i j : ℕ) → j < n → (i * n + j) % n ≡ j
+pair-column : (n i j : ℕ) → j < n → (i * n + j) % n ≡ j
 pair-column n i j h = let e = at-pair n (i * n + j) in let q = pair-row n i j h in add-left-cancel (i * n) (subst (λ (r : ℕ). r * n + (i * n + j) % n ≡ i * n + j) q e)
 
 -- below the diagonal the pair (j, i) stands before the pair (i, j)
-pub mirrored : (n k : ℕ) → k % n < n → k % n < k / n → k / n < n → k % n * n + k / n < k
+mirrored : (n k : ℕ) → k % n < n → k % n < k / n → k / n < n → k % n * n + k / n < k
 mirrored n k c h r = let z : suc (k % n) * n ≤ k / n * n = mul-le-mul h (le-refl n) in omega (arith, suc-mul (k % n) n, z, at-pair n k)
 
 -- ---- sums of equal terms
