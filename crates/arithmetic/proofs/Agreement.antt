@@ -1,19 +1,17 @@
 -- For every formula, what the code works, checked once at the end, is what the strict definition has: one law for each operation.
-use Prim.Native.Nat.{ℕ, zero, suc}
-use mathlib.Core.Path.{_≡_, refl, sym, ap, ap₂, _∙_}
+use mathlib.Core.Path.{_≡_, refl, _∙_}
 use mathlib.Core.Option.{Option, none, some}
-use mathlib.Core.Bool.{Bool, true, false, cond, Bool·beq, not}
+use mathlib.Core.Bool.{Bool, true, false, cond, Bool·beq}
 use lib.Dec.{eqb}
-use lib.IntN.{ℤ, pos}
+use lib.IntN.{ℤ}
 use lib.Ieee.{Float, binary64, nan, inf, fin, unlike}
 use lib.Ieee as Ieee
-use lib.Ieee.Scale.{finite}
 use Rattle.arithmetic.specs.Value.{value}
 use Rattle.arithmetic.specs.Basic.{Limit, Step, passes, pick}
 use Rattle.arithmetic.specs.Root.{sqrt}
 use Rattle.arithmetic.specs.Arithmetic.{Arithmetic}
-use Rattle.arithmetic.specs.Doubles.{checked, quotient, scaled, tested, stepped, orNan, strict, plain, doubles, guarded}
-use Rattle.arithmetic.proofs.Both.{Both, BasicKept, Kept, both, over-kept}
+use Rattle.arithmetic.specs.Doubles.{checked, quotient, tested, stepped, orNan, strict, plain, doubles, guarded}
+use Rattle.arithmetic.proofs.Both.{BasicKept, Kept, both, over-kept}
 
 -- the strict value d is the code's value g, checked
 pub record Same (g d : Float) : Type 0 where

@@ -1,23 +1,22 @@
 -- e of ln is the one with 0.75 * 2 ^ e ≤ q < 1.5 * 2 ^ e, and k of exp the greatest whole number that is not above q. What lies between two numbers of one case is of it too.
-use Prim.Native.Nat.{ℕ, zero, suc, _+_, _-_, _*_, _/_, _%_, _^_, _≤_, _<_}
-use native.Mathlib.Nat.{le-of-lt, lt-irrefl, lt-of-not-le, not-le-of-lt, le-of-suc-le-suc, mul-le-mul-right, mul-lt-mul-of-pos-right, le-of-mul-le-mul-right, lt-of-mul-lt-mul-right, lt-of-lt-of-le, mul-pos, div-add-mod', mod-lt, pow-succ', div-mul-le-self, div-lt-iff-lt-mul}
+use Prim.Native.Nat.{ℕ, zero, suc, _+_, _-_, _*_, _/_, _^_, _≤_, _<_}
+use native.Mathlib.Nat.{le-of-lt, lt-of-not-le, not-le-of-lt, le-of-suc-le-suc, mul-le-mul-right, mul-lt-mul-of-pos-right, le-of-mul-le-mul-right, lt-of-mul-lt-mul-right, mul-pos, pow-succ', div-mul-le-self, div-lt-iff-lt-mul}
 use native.Mathlib.Omega.{arith}
-use mathlib.Core.Path.{_≡_, refl, sym, ap, subst, _∙_}
-use mathlib.Core.Logic.{_⊎_, inl, inr}
+use mathlib.Core.Path.{_≡_, refl, sym, ap, subst}
 use mathlib.Core.Option.{Option, none, some, Option·some-inj}
 use mathlib.Core.Bool.{Bool, true, false, not, cond}
 use lib.IntN.{ℤ, pos, negsuc, sucℤ, predℤ, suc-pred}
-use lib.Dec.{T, ltb, leb, ltb→lt, lt→ltb, nltb→le, leb→le, nleb→lt}
-use lib.Pow.{pow-pos, pow-lt, pow-mono}
+use lib.Dec.{T, ltb, ltb→lt, lt→ltb, nltb→le}
+use lib.Pow.{pow-pos, pow-mono}
 use lib.Ieee.{up, down, minus, size}
 use lib.Ieee.Fits.{up-pos, down-pos}
-use lib.Ieee.Digits.{minus-val, size-lt, size-reaches, size-le}
+use lib.Ieee.Digits.{minus-val, size-lt, size-reaches}
 use lib.Arith.{le→nltb}
 use lib.Ieee.Bits.{is-true, is-false}
 use Rattle.arithmetic.specs.Fraction.{Fraction, _≼_, _≺_, _≺?_, null, whole}
 use Rattle.arithmetic.specs.Cases.{binade, near, exponentOf, floorOf}
 use Rattle.arithmetic.specs.Basic.{Step, exponent, floor, pick}
-use Rattle.arithmetic.proofs.Fraction.{≼-trans, ≼-≺-trans, ≺-≼-trans, was-yes, was-no}
+use Rattle.arithmetic.proofs.Fraction.{≼-trans, ≼-≺-trans, was-yes, was-no}
 
 -- ---- steps with ends `bound`
 module _ (bound : ℤ → Fraction) where

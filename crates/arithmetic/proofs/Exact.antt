@@ -1,25 +1,25 @@
 -- Where a double is the number meant: doubles told by their values, numbers that are rounded to themselves, whole numbers and powers of two.
-use Prim.Native.Nat.{ℕ, zero, suc, _+_, _-_, _*_, _/_, _^_, _≤_, _<_}
-use native.Mathlib.Nat.{mul-right-comm, one-mul, le-refl, eq-of-mul-eq-mul-right}
+use Prim.Native.Nat.{ℕ, zero, suc, _+_, _-_, _*_, _/_, _^_, _<_}
+use native.Mathlib.Nat.{mul-right-comm, eq-of-mul-eq-mul-right}
 use native.Mathlib.Omega.{arith}
 use mathlib.Core.Path.{_≡_, refl, sym, ap, subst, _∙_}
 use mathlib.Core.Bool.{Bool, true, false, cond}
 use borrow.Author.Tests.{ne-eqb}
 use lib.Arith.{digits-div, digits-mod}
 use lib.IntN.{ℤ, pos, negsuc, negℤ}
-use lib.Dec.{T, ltb, leb, leb→le, ltb→lt}
+use lib.Dec.{T, ltb, leb→le, ltb→lt}
 use lib.Ieee.{Float, nan, inf, fin, binary64, fits, le, up, down, size, hid, top, toBits, ofBits, ofInt, ofFields, odd, round, inFloat, add, mul}
-use lib.Ieee.Fits.{up-pos, down-pos, round-fits, cond-fits}
+use lib.Ieee.Fits.{down-pos, round-fits, cond-fits}
 use lib.Ieee.Bits.{ofBits-toBits}
 use lib.Ieee.Nearest.{div-same}
 use lib.Ieee.Exact.{HasValue, odd-sign}
 use lib.Ieee.Back.{round-whole}
 use lib.Ieee.Scale.{finite}
-use Rattle.arithmetic.specs.Fraction.{Fraction, _≼_, _≺_, null, whole, twoTo, _⊕_, _⊗_}
-use Rattle.arithmetic.specs.Value.{value, signed}
+use Rattle.arithmetic.specs.Fraction.{Fraction, _≼_, _≺_, null, whole, _⊕_, _⊗_}
+use Rattle.arithmetic.specs.Value.{value}
 use Rattle.arithmetic.specs.Rounding.{rounded}
 use Rattle.arithmetic.proofs.Fraction.{≼-refl, ≼-trans, ≺-≼-trans, ⊕-mono, ⊗-mono, ⊗-swap}
-use Rattle.arithmetic.proofs.Value.{le→≼, ≼→le, le-trans, finite-between, value-is}
+use Rattle.arithmetic.proofs.Value.{le→≼, le-trans, finite-between, value-is}
 use Rattle.arithmetic.proofs.Rounding.{rounded-mono, held, add-is, mul-is}
 use Rattle.arithmetic.proofs.Next.{read-plus}
 

@@ -1,8 +1,8 @@
 -- The laws of fractions: the order, and how sums, products and quotients keep it.
-use mathlib.Core.Path.{_≡_, refl, sym, ap, subst, _∙_}
+use mathlib.Core.Path.{_≡_, sym, subst, _∙_}
 use mathlib.Core.Logic.{_⊎_, inl, inr}
-use Prim.Native.Nat.{ℕ, zero, suc, _+_, _-_, _*_, _≤_, _<_, max}
-use native.Mathlib.Nat.{le-of-mul-le-mul-right, lt-of-mul-lt-mul-right, mul-le-mul-right, mul-lt-mul-of-pos-right, mul-pos, le-of-eq, le-refl, lt-irrefl, lt-trans, not-le-of-lt}
+use Prim.Native.Nat.{ℕ, _+_, _-_, _*_, _≤_, _<_, max}
+use native.Mathlib.Nat.{le-of-mul-le-mul-right, lt-of-mul-lt-mul-right, mul-le-mul-right, mul-lt-mul-of-pos-right, le-of-eq, le-refl, lt-irrefl, lt-trans, not-le-of-lt}
 use native.Mathlib.Omega.{arith}
 use mathlib.Core.Bool.{Bool, true, false, not, cond, true≢false}
 use lib.Dec.{T, ltb, ltb→lt, lt→ltb, nltb→le, not-T}

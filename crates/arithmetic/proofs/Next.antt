@@ -9,7 +9,7 @@ use lib.Dec.{T, leb, ltb, eqb, ltb→lt, nltb→le, eqb→eq, le→leb, T-not, n
 use lib.Arith.{digits-div, digits-mod, lt→nleb, le→nltb, lt-of-le-ne}
 use lib.IntN.{pos}
 use lib.Pow.{pow-pos}
-use lib.Ieee.{Float, nan, inf, fin, Format, binary32, binary64, prec, low, up, down, odd, le, fits, hid, ones, top, ofFields, ofBits, toBits, isNan, nanBits}
+use lib.Ieee.{Float, nan, inf, fin, Format, binary32, binary64, prec, low, odd, le, fits, hid, ones, top, ofFields, ofBits, toBits, isNan, nanBits}
 use lib.Ieee.Bits.{is-true, is-false, ofBits-toBits, toBits-lt, ofBits-fits, nanBits-above}
 use lib.Ieee.Fits.{eq→eqb}
 use lib.Ieee.Exact.{HasValue, odd-sign}

@@ -1,11 +1,11 @@
 -- Rounding keeps the order, it leaves a number that the format holds as it is,
 -- and a sum, a product and a quotient of floats is the exact one, rounded.
 use mathlib.Core.Path.{_≡_, refl, sym, ap, ap₂, subst, _∙_}
-use mathlib.Core.Logic.{_⊎_, inl, inr}
+use mathlib.Core.Logic.{inl, inr}
 use Prim.Native.Nat.{ℕ, zero, suc, _+_, _-_, _*_, _%_, _^_, _≤_, _<_, max}
-use native.Mathlib.Nat.{le-of-lt, le-of-eq, lt-irrefl, lt-of-lt-of-le, lt-of-not-le, le-of-suc-le-suc, eq-or-lt-of-le, mul-pos, sub-zero, mul-one, one-mul, mul-assoc, mul-comm, mul-right-comm, zero-lt-suc, mul-lt-mul-of-pos-right, mul-le-mul-right, lt-of-mul-lt-mul-right}
+use native.Mathlib.Nat.{le-of-lt, le-of-eq, lt-irrefl, lt-of-lt-of-le, lt-of-not-le, le-of-suc-le-suc, eq-or-lt-of-le, mul-pos, sub-zero, mul-one, one-mul, mul-assoc, mul-comm, zero-lt-suc, mul-lt-mul-of-pos-right, mul-le-mul-right, lt-of-mul-lt-mul-right}
 use native.Mathlib.Omega.{arith}
-use mathlib.Core.Bool.{Bool, true, false, not, _&&_, Bool·beq, cond, true≢false}
+use mathlib.Core.Bool.{Bool, true, false, not, _&&_, cond, true≢false}
 use lib.IntN.{ℤ, pos, negsuc}
 use lib.Dec.{T, leb, ltb, eqb, ltb→lt, lt→ltb, nltb→le, eqb→eq, leb→le, T-not, not-T}
 use lib.Pow.{pow-add, pow-pos, pow-lt}
@@ -16,11 +16,11 @@ use lib.Ieee.Bits.{cond-no, is-true, is-false}
 use lib.Ieee.Exact.{HasValue, round-exact}
 use lib.Ieee.Order.{round-mono}
 use lib.Ieee.Scale.{finite, round-same}
-use Rattle.arithmetic.specs.Fraction.{Fraction, _≼_, _≺_, null, _⊕_, opp, _⊗_, _⊘_, recip, Apart}
+use Rattle.arithmetic.specs.Fraction.{Fraction, _≼_, _⊕_, opp, _⊗_, _⊘_, Apart}
 use Rattle.arithmetic.specs.Value.{signed, value, sign}
 use Rattle.arithmetic.specs.Rounding.{rounded}
-use Rattle.arithmetic.proofs.Fraction.{≼-trans, ≺→≼, ≼-or-≻}
-use Rattle.arithmetic.proofs.Value.{le→≼, ≼→le, le-trans, neg-le}
+use Rattle.arithmetic.proofs.Fraction.{≺→≼, ≼-or-≻}
+use Rattle.arithmetic.proofs.Value.{≼→le, le-trans, neg-le}
 
 -- ---- by the three cases
 no-loop : (a : ℕ) → a < a → ⊥

@@ -2,7 +2,7 @@
 use mathlib.Core.Path.{_≡_, refl, sym, ap, subst, _∙_}
 use native.Mathlib.Omega.{arith}
 use mathlib.Core.Bool.{Bool, true, false, not, _&&_, false≢true}
-use mathlib.Core.Logic.{_⊎_, inl, inr}
+use mathlib.Core.Logic.{inl, inr}
 use lib.Dec.{T, not-T, T-not}
 use lib.IntN.{pos}
 use lib.Ieee.{Float, nan, inf, fin, binary64, ofBits, lt, le, eq, sub, div}

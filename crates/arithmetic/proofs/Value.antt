@@ -1,17 +1,16 @@
 -- `le` and `lt` on finite floats are the order of their values. `le` is transitive, the infinities included.
-use mathlib.Core.Path.{_≡_, refl, sym, ap, subst, _∙_}
+use mathlib.Core.Path.{_≡_, sym}
 use mathlib.Core.Logic.{_⊎_, inl, inr}
-use Prim.Native.Nat.{ℕ, zero, suc, _+_, _-_, _*_, _≤_, _<_}
-use native.Mathlib.Nat.{le-of-lt, le-of-eq, eq-or-lt-of-le, mul-pos}
+use Prim.Native.Nat.{ℕ, _+_, _*_, _≤_, _<_}
+use native.Mathlib.Nat.{le-of-lt, le-of-eq, eq-or-lt-of-le}
 use native.Mathlib.Omega.{arith}
-use mathlib.Core.Bool.{Bool, true, false, not, _&&_, _||_, Bool·beq, cond, true≢false}
-use lib.IntN.{ℤ, pos}
-use lib.Dec.{T, leb, ltb, eqb, ltb→lt, lt→ltb, eqb→eq, eqb-refl}
-use lib.Ieee.{Float, nan, inf, fin, up, down, below, level, lt, eq, le, neg, isNan}
-use lib.Ieee.Fits.{down-pos, and-l, and-r, and-i, eq→eqb}
+use mathlib.Core.Bool.{Bool, true, false, not, _&&_, _||_, Bool·beq, true≢false}
+use lib.Dec.{T, ltb, eqb, ltb→lt, lt→ltb, eqb→eq}
+use lib.Ieee.{Float, nan, inf, fin, up, down, lt, le, neg}
+use lib.Ieee.Fits.{and-l, and-r, and-i, eq→eqb}
 use lib.Ieee.Exact.{HasValue}
 use lib.Ieee.Scale.{finite}
-use Rattle.arithmetic.specs.Fraction.{Fraction, _≼_, _≺_, null}
+use Rattle.arithmetic.specs.Fraction.{_≼_, _≺_}
 use Rattle.arithmetic.specs.Value.{signed, value}
 use Rattle.arithmetic.proofs.Fraction.{≼-trans}
 

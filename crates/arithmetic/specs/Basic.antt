@@ -1,5 +1,4 @@
 -- The operations that the recipes of the elementary functions are written in. How a case is chosen is an operation too, so that doubles, ranges and fractions run one text.
-use Prim.Native.Nat.{ℕ}
 use mathlib.Core.Bool.{Bool}
 use mathlib.Core.Option.{Option, some}
 use lib.IntN.{ℤ}

@@ -1,5 +1,5 @@
 -- The two whole numbers by which a recipe chooses its case: e of ln and k of exp. proofs/Cases.antt shows that each is the one that document 01 names.
-use Prim.Native.Nat.{ℕ, _-_, _*_, _/_}
+use Prim.Native.Nat.{_-_, _*_, _/_}
 use native.Mathlib.Omega.{arith}
 use mathlib.Core.Option.{Option, none, some}
 use mathlib.Core.Bool.{cond}

@@ -1,7 +1,7 @@
 -- Two meanings in doubles. `doubles` is the definition of demand 2: each operation rounds once, and a value that is not finite, or an argument without a rule,
 -- is NaN from there on. `guarded` is what the code works: the machine's operations with no test between them but where one could lose what is not finite.
 -- proofs/Agreement.antt: for every formula, one test at the end of `guarded` gives `doubles`.
-use mathlib.Core.Bool.{Bool, true, false, cond}
+use mathlib.Core.Bool.{false, cond}
 use mathlib.Core.Option.{Option, none, some}
 use lib.IntN.{ℤ}
 use lib.Ieee.{Float, nan, inf, fin, binary64, ofInt}

@@ -1,7 +1,7 @@
 -- The square root of a double as IEEE 754 has it: the nearest double, ties to even, worked in whole numbers. proofs/Nearest.antt shows that it is the nearest.
 use mathlib.Core.Path.{_≡_, refl}
 use Prim.Native.Nat.{ℕ, zero, suc, _+_, _*_, _/_, _^_}
-use mathlib.Core.Bool.{Bool, true, false, cond}
+use mathlib.Core.Bool.{true, false, cond}
 use lib.Dec.{leb, eqb}
 use lib.IntN.{pos, negsuc}
 use lib.Ieee.{Float, nan, inf, fin, binary64, up, down, size, round}

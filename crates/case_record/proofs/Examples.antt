@@ -3,7 +3,7 @@ use Prim.Native.Nat.{ℕ}
 use mathlib.Core.Path.{_≡_, refl}
 use mathlib.Core.Bool.{false}
 use mathlib.Core.List.{List, [], _∷_, _++_}
-use lib.ListN.{length, replicate}
+use lib.ListN.{replicate}
 use lib.Ieee.{Float, binary64, ofBits, toBits, round, le, add}
 use Rattle.arithmetic.specs.Arithmetic.{sumBy}
 use Rattle.arithmetic.specs.Constants.{zeroD}

@@ -1,10 +1,10 @@
 -- The floor of a double from -1022 to 1024, by its whole part and one comparison.
-use mathlib.Core.Path.{_≡_, refl, sym, ap, subst, _∙_}
-use Prim.Native.Nat.{ℕ, zero, suc, _+_, _-_, _*_, _/_, _^_, _≤_, _<_, min}
+use mathlib.Core.Path.{_≡_, sym, subst, _∙_}
+use Prim.Native.Nat.{ℕ, zero, suc, _-_, _*_, _/_, _^_, _≤_, _<_, min}
 use native.Mathlib.Nat.{div-mul-le-self, div-lt-iff-lt-mul, le-of-mul-le-mul-right, le-trans}
 use native.Mathlib.Omega.{arith}
 use mathlib.Core.Bool.{Bool, true, false, cond, false≢true}
-use mathlib.Core.Logic.{_⊎_, inl, inr}
+use mathlib.Core.Logic.{inl, inr}
 use lib.IntN.{ℤ, pos, negsuc, negℤ, sucℤ, predℤ, suc-pred}
 use lib.Signed.{leZ}
 use lib.Dec.{T, le→leb, lt→ltb, leb→le}
@@ -17,7 +17,7 @@ use mir.Val.{SFits}
 use Rattle.arithmetic.specs.Fraction.{Fraction, _≼_, _≺_, whole}
 use Rattle.arithmetic.specs.Value.{value, signed}
 use Rattle.arithmetic.specs.Cases.{floorOf}
-use Rattle.arithmetic.proofs.Fraction.{≼-trans, ≺-≼-trans, ≼-≺-trans, ≼-or-≻, ≺-not-≼}
+use Rattle.arithmetic.proofs.Fraction.{≼-trans, ≺-≼-trans, ≼-≺-trans, ≼-or-≻}
 use Rattle.arithmetic.proofs.Value.{≼→le, ≺→lt, lt→≺}
 use Rattle.arithmetic.proofs.Cases.{In, floor-is, floor-in}
 use Rattle.arithmetic.proofs.Exact.{whole-exact}

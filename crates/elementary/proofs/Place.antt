@@ -1,6 +1,6 @@
 -- For a v from -700 to 700, v × E + 0.5 lies well within the exponents of normal doubles: rounding keeps the order, so its ends tell.
-use mathlib.Core.Path.{_≡_, refl, sym, subst, _∙_}
-use mathlib.Core.Bool.{Bool, true, false, true≢false, false≢true}
+use mathlib.Core.Path.{_≡_, sym, subst}
+use mathlib.Core.Bool.{true, false, true≢false, false≢true}
 use lib.Dec.{T, leb→le}
 use lib.IntN.{pos, negsuc}
 use lib.Ieee.{Float, nan, inf, fin, binary64, add, mul, le, lt, neg, ofBits, round, sum}

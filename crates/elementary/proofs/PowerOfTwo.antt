@@ -1,6 +1,6 @@
 -- The double of 2^k, by its bit pattern.
 use mathlib.Core.Path.{_≡_, refl, sym, ap, _∙_, subst}
-use Prim.Native.Nat.{ℕ, zero, suc, _+_, _-_, _*_, _/_, _%_, _^_, _≤_, _<_}
+use Prim.Native.Nat.{ℕ, suc, _+_, _-_, _*_, _^_, _≤_, _<_}
 use native.Mathlib.Nat.{mod-eq-of-lt, mul-one, one-mul, mul-le-mul-left, le-of-eq, pow-succ', lt-of-le-of-lt, lt-of-lt-of-le}
 use native.Mathlib.Omega.{arith}
 use mathlib.Core.Bool.{Bool, true, false, not, cond}
@@ -8,7 +8,7 @@ use borrow.Author.Tests.{le-ltb}
 use lib.IntN.{ℤ, pos, negsuc, _+ℤ_}
 use lib.Dec.{T, ltb, leb, leb→le, le→leb, lt→ltb, lit<}
 use lib.Pow.{pow-add, pow-pos, pow-mono, pow-lt}
-use lib.Ieee.{Float, fin, binary64, up, down, ofBits, nanBits, fits}
+use lib.Ieee.{fin, binary64, up, down, ofBits, nanBits, fits}
 use lib.Ieee.Bits.{nanBits-above, ofBits-fits}
 use lib.Ieee.Fits.{and-i}
 use lib.Ieee.Exact.{HasValue}

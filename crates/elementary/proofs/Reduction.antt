@@ -1,6 +1,6 @@
 -- The reduction of ln: v = m × 2^e with 0.75 ≤ m < 1.5, from a significand of 53 digits and its exponent.
-use mathlib.Core.Path.{_≡_, refl, sym, ap, _∙_, subst}
-use Prim.Native.Nat.{ℕ, zero, suc, _+_, _-_, _*_, _^_, _≤_, _<_}
+use mathlib.Core.Path.{_≡_, sym, ap, _∙_, subst}
+use Prim.Native.Nat.{ℕ, suc, _+_, _-_, _*_, _^_, _≤_, _<_}
 use native.Mathlib.Nat.{mul-le-mul-right, mul-lt-mul-of-pos-right, mul-pos, lt-of-mul-lt-mul-right, le-of-eq, one-mul, mul-one}
 use native.Mathlib.Omega.{arith}
 use mathlib.Core.Bool.{Bool, true, false, not, cond}
@@ -8,18 +8,17 @@ use mathlib.Core.Option.{some}
 use lib.Dec.{T, ltb, ltb→lt, nltb→le}
 use lib.IntN.{ℤ, pos, negsuc, negℤ, sucℤ, subℕ}
 use lib.Pow.{pow-pos, pow-add}
-use lib.Ieee.{Float, binary64, fin, up, down, ofBits, mul, fits}
+use lib.Ieee.{Float, binary64, fin, up, down, ofBits, fits}
 use lib.Ieee.Bits.{ofBits-fits}
-use lib.Ieee.Fits.{up-pos, down-pos}
+use lib.Ieee.Fits.{down-pos}
 use lib.Ieee.Exact.{HasValue}
-use lib.Ieee.Scale.{finite}
-use Rattle.arithmetic.specs.Fraction.{Fraction, _≼_, _≺_, null, _⊗_}
+use Rattle.arithmetic.specs.Fraction.{Fraction, _≼_, _≺_, _⊗_}
 use Rattle.arithmetic.specs.Value.{value, signed}
 use Rattle.arithmetic.specs.Cases.{binade, exponentOf}
 use Rattle.arithmetic.specs.Doubles.{scaled}
 use Rattle.arithmetic.proofs.Fraction.{≼-trans, ≺-≼-trans, ≼-≺-trans, ⊗-mono, ⊗-swap}
 use Rattle.arithmetic.proofs.Value.{value-is}
-use Rattle.arithmetic.proofs.Cases.{In, double, exponent-is}
+use Rattle.arithmetic.proofs.Cases.{double, exponent-is}
 use Rattle.arithmetic.proofs.Rounding.{mul-is}
 use Rattle.arithmetic.proofs.Exact.{normal-value, rescale, has-value-finite, rounded-exact, up-neg, down-neg}
 

@@ -1,15 +1,15 @@
 -- Small whole numbers in an i64, and as doubles.
-use mathlib.Core.Path.{_≡_, refl, sym, ap, _∙_, subst}
+use mathlib.Core.Path.{_≡_, refl}
 use mathlib.Core.Bool.{Bool, true, false, cond}
-use Prim.Native.Nat.{ℕ, zero, suc, _+_, _-_, _^_, _≤_, _<_}
+use Prim.Native.Nat.{ℕ, suc, _-_, _^_, _≤_, _<_}
 use native.Mathlib.Omega.{arith}
 use borrow.Author.Tests.{ltb-true}
-use lib.IntN.{ℤ, pos, negsuc, subℕ, _-ℤ_}
+use lib.IntN.{ℤ, pos, negsuc, subℕ}
 use lib.Signed.{mag}
 use lib.Dec.{T, ltb, lt→ltb, le→leb, leb→le, ltb→lt}
 use lib.Ieee.{binary64, inFloat}
 use mir.Syntax.{w64}
-use mir.Val.{SFits, toZ, ofZ}
+use mir.Val.{SFits, toZ}
 use mir.ValLaws.{toZ-ofZ}
 
 pub word : (n : ℕ) → n < 2 ^ 62 → toZ w64 n ≡ pos n

@@ -3,7 +3,7 @@ use Prim.Native.Nat.{ℕ, _*_, _/_, _%_, _<_}
 use mathlib.Core.Path.{_≡_, ap, ap₂, _∙_}
 use mathlib.Core.List.{List}
 use lib.ListN.{getD}
-use lib.Ieee.{Float, nan, mul}
+use lib.Ieee.{Float, nan}
 use Rattle.arithmetic.specs.Doubles.{guarded}
 use Rattle.uvtheory.specs.declared.parameters.Mixture.{Mixture}
 use Rattle.uvtheory.specs.declared.parameters.State.{State}

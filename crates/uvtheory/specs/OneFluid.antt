@@ -16,7 +16,7 @@ pub record OneFluid (X : Type 0) : Type 0 where
   pub d : X
 
 module _ (A : Arithmetic) where
-  open Arithmetic A using (Value, constant, mul as _*_, div as _/_, powi as _^_, powf, sum)
+  open Arithmetic A using (Value, constant, mul as _*_, div as _/_, powi as _^_, powf)
 
   infixl 70 _*_ _/_
   infix 90 _^_

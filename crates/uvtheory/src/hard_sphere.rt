@@ -4,7 +4,7 @@ use crate::parameters::State;
 use elementary::basic::div;
 use elementary::logarithm::ln_1p;
 ghost use mathlib.Core.Path.{_≡_};
-ghost use Prim.Native.Nat.{_≤_, _<_, _*_};
+ghost use Prim.Native.Nat.{_≤_};
 ghost use Rattle.arithmetic.specs.Doubles.{guarded};
 ghost use Rattle.uvtheory.specs.Rows.{row, state};
 ghost use Rattle.uvtheory.specs.HardSphere as F;

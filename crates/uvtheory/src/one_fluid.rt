@@ -4,7 +4,7 @@ use elementary::basic::div;
 use elementary::basic::powi;
 use elementary::exponential::powf;
 ghost use mathlib.Core.Path.{_≡_};
-ghost use Prim.Native.Nat.{_≤_, _<_, _*_};
+ghost use Prim.Native.Nat.{_≤_};
 ghost use Rattle.arithmetic.specs.Doubles.{guarded};
 ghost use Rattle.uvtheory.specs.Rows.{row, matrix, fluid};
 ghost use Rattle.uvtheory.specs.OneFluid as F;

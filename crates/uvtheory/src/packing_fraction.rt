@@ -2,7 +2,7 @@
 use crate::consts::PI;
 use elementary::basic::div;
 ghost use mathlib.Core.Path.{_≡_};
-ghost use Prim.Native.Nat.{_≤_, _<_, _*_};
+ghost use Prim.Native.Nat.{_≤_};
 ghost use Rattle.arithmetic.specs.Doubles.{guarded};
 ghost use Rattle.uvtheory.specs.Tables.{table};
 ghost use Rattle.uvtheory.specs.Rows.{row};

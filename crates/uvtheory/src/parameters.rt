@@ -4,12 +4,11 @@ use elementary::exponential::powf;
 use elementary::root::sqrt;
 ghost use mathlib.Core.Path.{_≡_};
 ghost use mathlib.Core.List.{[], _∷_};
-ghost use Prim.Native.Nat.{_+_, _*_, _≤_, _<_};
+ghost use Prim.Native.Nat.{_≤_, _<_};
 ghost use Rattle.arithmetic.specs.Doubles.{guarded};
 ghost use Rattle.uvtheory.specs.Literals as N;
 ghost use Rattle.uvtheory.specs.Parameters as F;
-ghost use Rattle.uvtheory.specs.Rows.{row};
-ghost use Rattle.uvtheory.specs.Rows.{place as placeOf};
+ghost use Rattle.uvtheory.specs.Rows.{row, place as placeOf};
 ghost use Rattle.uvtheory.specs.Held.{PairOf, CombinedOf};
 
 // A mixture of n substances, 1 to 8, as sent. Only the first n of each row count, and of k_ij the first n(n-1)/2: i below j, row by row.

@@ -6,7 +6,7 @@ use elementary::basic::div;
 use elementary::exponential::powf;
 use elementary::logarithm::ln;
 ghost use mathlib.Core.Path.{_≡_};
-ghost use Prim.Native.Nat.{_+_, _≤_, _<_, _*_};
+ghost use Prim.Native.Nat.{_≤_};
 ghost use Rattle.arithmetic.specs.Doubles.{guarded};
 ghost use Rattle.uvtheory.specs.Rows.{row, Row, parameters};
 ghost use Rattle.uvtheory.specs.Bh.HardSphere as F;

@@ -11,7 +11,7 @@ use crate::parameters::State;
 use crate::reference_energy::energy;
 use elementary::basic::div;
 ghost use mathlib.Core.Path.{_≡_};
-ghost use Prim.Native.Nat.{_+_, _≤_, _<_, _*_};
+ghost use Prim.Native.Nat.{_≤_};
 ghost use Rattle.arithmetic.specs.Doubles.{guarded};
 ghost use Rattle.arithmetic.specs.Sums.{pairs};
 ghost use Rattle.uvtheory.specs.Rows.{row, matrix, Row, parameters, state};

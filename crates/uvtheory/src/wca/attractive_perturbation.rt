@@ -17,7 +17,7 @@ use elementary::exponential::exp;
 use elementary::exponential::powf;
 use elementary::exponential::tanh;
 ghost use mathlib.Core.Path.{_≡_};
-ghost use Prim.Native.Nat.{_≤_, _<_, _*_};
+ghost use Prim.Native.Nat.{_≤_, _<_};
 ghost use Rattle.arithmetic.specs.Doubles.{guarded};
 ghost use Rattle.uvtheory.specs.Rows.{row, matrix, fluid, Row, Matrix, parameters, state};
 ghost use Rattle.uvtheory.specs.Held.{CombinedOf, Symmetric};

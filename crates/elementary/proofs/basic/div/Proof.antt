@@ -1,4 +1,3 @@
-use mathlib.Core.Path.{refl}
 use Rattle.arithmetic.specs.Doubles.{quotient}
 use Rattle.arithmetic.proofs.Tests.{zero-by-zero}
 use Rattle.elementary.proofs.basic.div.Statement.{statement}

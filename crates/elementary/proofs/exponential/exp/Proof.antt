@@ -1,10 +1,9 @@
 -- The tests tell the cases of the recipe.
 use mathlib.Core.Path.{_≡_, refl, sym, ap, _∙_, subst}
 use mathlib.Core.Bool.{Bool, true, false, not}
-use mathlib.Core.Option.{some}
 use lib.Dec.{T}
 use lib.IntN.{ℤ}
-use lib.Ieee.{Float, nan, inf, fin, binary64, lt, le, neg, add, mul, ofBits}
+use lib.Ieee.{Float, nan, inf, fin, binary64, lt, le, add, mul}
 use lib.Ieee.Bits.{is-true}
 use lib.Ieee.Scale.{finite}
 use Rattle.arithmetic.specs.Value.{value}

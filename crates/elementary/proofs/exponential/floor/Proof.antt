@@ -1,19 +1,17 @@
 -- The laws are in proofs/Floor.antt; the rest says that small whole numbers come back from an i64 as they were.
 use mathlib.Core.Path.{_≡_, sym, ap, _∙_, subst}
-use Prim.Native.Nat.{ℕ, zero, suc, _^_, _<_}
-use native.Mathlib.Omega.{arith}
-use mathlib.Core.Bool.{true, false}
-use lib.Dec.{T, leb→le, ltb→lt}
-use lib.IntN.{ℤ, pos, negsuc, predℤ, _-ℤ_, -ℤ-one}
+use Prim.Native.Nat.{_^_, _<_}
+use lib.Dec.{T}
+use lib.IntN.{ℤ, pos, _-ℤ_, -ℤ-one}
 use lib.Signed.{mag}
-use lib.Ieee.{Float, binary64, lt, ofInt, toSigned, inFloat}
+use lib.Ieee.{binary64, lt, ofInt, toSigned, inFloat}
 use lib.Ieee.Casts.{toSigned-in}
 use mir.Syntax.{w64}
 use mir.Val.{SFits, toZ, ofZ}
 use mir.ValLaws.{toZ-ofZ}
 use Rattle.arithmetic.specs.Value.{value}
 use Rattle.arithmetic.specs.Cases.{floorOf}
-use Rattle.elementary.proofs.Floor.{Bounded, Normal, floor-normal, normal-word, whole-part, floor-below, floor-above, wide}
+use Rattle.elementary.proofs.Floor.{floor-normal, normal-word, whole-part, floor-below, floor-above, wide}
 use Rattle.elementary.proofs.exponential.floor.Statement.{statement}
 use Rattle.elementary.proofs.exponential.floor.Tie as tie
 

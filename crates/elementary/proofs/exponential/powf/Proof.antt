@@ -3,8 +3,7 @@ use mathlib.Core.Path.{_≡_, refl, sym, ap, _∙_, subst}
 use mathlib.Core.Logic.{⊎-elim}
 use mathlib.Core.Bool.{Bool, true, false, cond, false≢true}
 use lib.Dec.{T}
-use lib.Ieee.{Float, nan, inf, fin, binary64, lt, neg, mul, ofBits}
-use lib.Ieee.Bits.{is-true}
+use lib.Ieee.{Float, nan, inf, fin, binary64, lt, mul, ofBits}
 use lib.Ieee.Scale.{finite}
 use Rattle.arithmetic.specs.Basic.{above}
 use Rattle.arithmetic.specs.Constants.{zeroD}

@@ -1,5 +1,5 @@
 -- The tests tell the cases of the recipe.
-use mathlib.Core.Path.{_≡_, refl, sym, _∙_, subst}
+use mathlib.Core.Path.{_≡_, sym, _∙_, subst}
 use mathlib.Core.Bool.{true, false, cond}
 use lib.Dec.{T}
 use lib.Ieee.{Float, nan, binary64, lt, neg, add, sub, mul, ofBits}

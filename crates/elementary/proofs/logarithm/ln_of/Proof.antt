@@ -1,4 +1,4 @@
-use mathlib.Core.Path.{_≡_, refl, sym, subst}
+use mathlib.Core.Path.{_≡_, sym, subst}
 use lib.Dec.{T}
 use lib.IntN.{ℤ}
 use lib.Ieee.{binary64, inFloat}

@@ -1,4 +1,3 @@
-use mathlib.Core.Path.{refl}
 use Rattle.arithmetic.specs.Recipes as R
 use Rattle.elementary.proofs.logarithm.series.Statement.{statement}
 use Rattle.elementary.proofs.logarithm.series.Tie as tie
