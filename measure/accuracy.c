@@ -1,7 +1,7 @@
 // accuracy COUNT: the largest relative error of each function, and of the C library's, against the C library's long double functions,
 // on COUNT arguments of each interval: spread over it, close to its ends, and close to the limits of the recipes in it. Prints a Markdown table.
 #include "arguments.h"
-#include "noddyfir.h"
+#include "functions.h"
 #include <math.h>
 #include <stdio.h>
 #include <stdlib.h>

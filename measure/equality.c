@@ -1,7 +1,6 @@
 // equality COUNT: compares each compiled function with recipes.c by bits, on COUNT arguments. Any difference is a failure.
 #include "arguments.h"
-#include "noddyfir.h"
-#include "recipes.h"
+#include "functions.h"
 #include <math.h>
 #include <stdio.h>
 #include <stdlib.h>

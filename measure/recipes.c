@@ -1,6 +1,6 @@
 // Written from document 01, "Functions the files only call", and not from the Rattle text: what the compiled functions are compared with.
 // An argument that is not finite or has no rule gives NaN. Compile with -ffp-contract=off: each operation rounds once.
-#include "recipes.h"
+#include "functions.h"
 #include <math.h>
 
 // c[0] + z * (c[1] + z * ..)

@@ -1,7 +1,7 @@
 // Nanoseconds per call of each function and of the C library's, on the same arguments in turn: the least, the median and the largest of many rounds.
 // A round times every function, so that another program's burst of work does not fall on one function alone.
 #include "arguments.h"
-#include "noddyfir.h"
+#include "functions.h"
 #include <math.h>
 #include <stdio.h>
 #include <stdlib.h>
