@@ -1,5 +1,5 @@
 -- What a loop over components or pairs adds in one turn, and that sums agree whose terms agree.
-use Prim.Native.Nat.{ℕ, zero, suc, _+_, _*_, _/_, _%_, _<_, _≤_}
+use Prim.Native.Nat.{ℕ, zero, suc, _+_, _-_, _*_, _/_, _%_, _<_, _≤_}
 use mathlib.Core.Path.{_≡_, refl, sym, ap₂, subst, _∙_}
 use mathlib.Core.Logic.{_⊎_, inl, inr}
 use mathlib.Core.List.{List}
@@ -8,7 +8,10 @@ use lib.Seq.{getD-set-same, getD-set-other}
 use native.Mathlib.Nat.{mul-le-mul, div-lt-iff-lt-mul, mod-lt, div-add-mod', le-refl, lt-irrefl, eq-or-lt-of-le, le-of-suc-le-suc, div-eq-of-lt-le, suc-mul, add-left-cancel, add-mul}
 use native.Mathlib.Numerals.{add-one}
 use native.Mathlib.Omega.{arith}
+use lib.Dec.{lit≤}
 use lib.Ieee.{Float, nan, binary64, add}
+use mir.Syntax.{w64}
+use mir.Val.{Fits}
 use Rattle.arithmetic.specs.Arithmetic.{sumBy}
 use Rattle.arithmetic.specs.Doubles.{guarded}
 use Rattle.uvtheory.specs.Rows.{Row}
@@ -47,19 +50,48 @@ unfolding sumBy
 sum-ext zero f g h = refl
 sum-ext (suc n) f g h = ap₂ (add binary64) (sum-ext n f g (λ i l. h i (omega arith))) (h n (le-refl (suc n)))
 
--- ---- the pairs of at most eight components
+-- ---- what an access asks. The loops answer by these facts, since `omega` would work each anew.
+pub record At (size i : ℕ) : Type 0 where
+  pub below : i < size
+  pub fits : Fits w64 (i * 8)
+  pub next : Fits w64 (i + 1)
+
+pub at : (size i : ℕ) → size ≤ 64 → i < size → At size i
+at size i h l = record { below = l; fits = omega arith; next = omega arith }
+
+-- of the k-th pair of n components, of the two components, and of the pair the other way round; and that fewer pairs are left after it
+pub record Bounds (n k : ℕ) : Type 0 where
+  pub some : 0 < n
+  pub row : At 8 (k / n)
+  pub column : At 8 (k % n)
+  pub pair : At 64 k
+  pub mirror-row : Fits w64 (k % n * n)
+  pub mirror-place : Fits w64 (k % n * n + k / n)
+  pub mirror : At 64 (k % n * n + k / n)
+  pub less : n * n - (k + 1) < n * n - k
+
 pub square-le : (n : ℕ) → n ≤ 8 → n * n ≤ 64
 square-le n h = mul-le-mul h h
 
--- all that the bounds of an access to a pair, and to its mirror image, follow from
-abbrev pub Bounds : ℕ → ℕ → Type 0
-Bounds n k = (n * n ≤ 64) × (k / n < n) × (k % n < n) × (k % n * n + k / n < n * n)
+pub square-fits : (n : ℕ) → n ≤ 8 → Fits w64 (n * n)
+square-fits n h = let z = square-le n h in omega arith
 
 pub pair-within : (n k : ℕ) → n ≤ 8 → k < n * n → Bounds n k
 pair-within n k h l =
-    let c = column-of n k l in
+    let s = square-le n h in
     let r = row-of n k l in
-    let z : suc (k % n) * n ≤ n * n = mul-le-mul c (le-refl n) in (square-le n h, r, c, omega (arith, suc-mul (k % n) n, z))
+    let c = column-of n k l in
+    let z : suc (k % n) * n ≤ n * n = mul-le-mul c (le-refl n) in
+    let m : k % n * n + k / n < 64 = omega (arith, suc-mul (k % n) n, z) in record {
+      some = some-rows n k l;
+      row = at 8 (k / n) (lit≤ tt) (omega arith);
+      column = at 8 (k % n) (lit≤ tt) (omega arith);
+      pair = at 64 k (lit≤ tt) (omega arith);
+      mirror-row = omega arith;
+      mirror-place = omega arith;
+      mirror = at 64 (k % n * n + k / n) (lit≤ tt) m;
+      less = omega arith;
+    }
 
 -- ---- an array that is filled from its start
 pub row-set : (f : ℕ → Float) (v : Float) (i : ℕ) (xs : List Float) → i < length xs → Row i xs f → v ≡ f i → Row (i + 1) (set xs i v) f

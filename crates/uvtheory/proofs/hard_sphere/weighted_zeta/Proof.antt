@@ -1,5 +1,5 @@
-use Prim.Native.Nat.{ℕ, _≤_, _-_}
-use mathlib.Core.Path.{_≡_, refl, ap, _∙_}
+use Prim.Native.Nat.{_≤_, _-_}
+use mathlib.Core.Path.{_≡_, refl}
 use native.Mathlib.Omega.{arith}
 use borrow.Author.Needs.{needs}
 use Rattle.arithmetic.specs.Arithmetic.{sumBy, powerBy}
@@ -33,7 +33,7 @@ loop-again c = (
 
 returns : tie.Need-returns Inv-loop μ-loop
 unfolding F.weighted-zeta
-returns c = let e : c .before .loop .i ≡ c .before .before .args .n = omega arith in (c .before .loop .inv .1 ∙ ap (λ (k : ℕ). F.weighted-zeta guarded k (row (c .before .before .args .diameter .now)) (row (c .before .before .args .weights .now)) 0) e, c .before .loop .inv .2 ∙ ap (λ (k : ℕ). F.weighted-zeta guarded k (row (c .before .before .args .diameter .now)) (row (c .before .before .args .weights .now)) 1) e, c .before .loop .inv .3 ∙ ap (λ (k : ℕ). F.weighted-zeta guarded k (row (c .before .before .args .diameter .now)) (row (c .before .before .args .weights .now)) 2) e, c .before .loop .inv .4 ∙ ap (λ (k : ℕ). F.weighted-zeta guarded k (row (c .before .before .args .diameter .now)) (row (c .before .before .args .weights .now)) 3) e)
+returns c = let e : c .before .loop .i ≡ c .before .before .args .n = omega arith in (rw e at (c .before .loop .inv .1), rw e at (c .before .loop .inv .2), rw e at (c .before .loop .inv .3), rw e at (c .before .loop .inv .4))
 
 pub weighted-zeta-spec : {M : Type 1} → statement M
 weighted-zeta-spec = tie.close (tie.spec Inv-loop μ-loop loop-holds (λ c. search needs) (λ c. search needs) (λ c. search needs) (λ c. search needs) (λ c. search needs) (λ c. search needs) loop-again returns)

@@ -1,12 +1,11 @@
-use Prim.Native.Nat.{ℕ, _≤_, _-_, _*_, _/_, _%_}
-use mathlib.Core.Path.{_≡_, refl, ap, _∙_}
+use Prim.Native.Nat.{_≤_, _-_, _*_, _/_, _%_}
+use mathlib.Core.Path.{_≡_, refl}
 use native.Mathlib.Omega.{arith}
-use borrow.Author.Needs.{needs}
 use Rattle.arithmetic.specs.Arithmetic.{sumBy, powerBy}
 use Rattle.arithmetic.specs.Doubles.{guarded}
 use Rattle.uvtheory.specs.Rows.{row, matrix}
 use Rattle.uvtheory.specs.OneFluid as F
-use Rattle.uvtheory.proofs.Loops.{sum-step, at-pair, square-le, Bounds, pair-within}
+use Rattle.uvtheory.proofs.Loops.{sum-step, at-pair, Bounds, pair-within, square-fits}
 use Rattle.uvtheory.proofs.one_fluid.pair_mean.Statement.{statement}
 use Rattle.uvtheory.proofs.one_fluid.pair_mean.Tie as tie
 
@@ -33,7 +32,7 @@ loop-again c = (
 
 returns : tie.Need-returns Inv-loop μ-loop
 unfolding F.pair-mean
-returns c = let e : c .before .loop .k ≡ c .before .before .args .n * c .before .before .args .n = omega arith in c .before .loop .inv .1 ∙ ap (λ (l : ℕ). guarded .sum l (λ l. guarded .mul (guarded .mul (row (c .before .before .args .x .now) (l / c .before .before .args .n)) (row (c .before .before .args .x .now) (l % c .before .before .args .n))) (matrix (c .before .before .args .n) (c .before .before .args .f .now) (l / c .before .before .args .n) (l % c .before .before .args .n)))) e
+returns c = let e : c .before .loop .k ≡ c .before .before .args .n * c .before .before .args .n = omega arith in rw e at (c .before .loop .inv .1)
 
 pub pair-mean-spec : {M : Type 1} → statement M
-pair-mean-spec = tie.close (tie.spec Inv-loop μ-loop loop-holds (λ c. omega (arith, square-le (c .before .args .n) (c .before .pre))) (λ c. omega (arith, inside c)) (λ c. omega (arith, inside c)) (λ c. omega (arith, inside c)) (λ c. omega (arith, inside (c .before))) (λ c. omega (arith, inside (c .before))) (λ c. omega (arith, inside (c .before))) (λ c. omega (arith, inside (c .before .before))) (λ c. omega (arith, inside (c .before .before))) (λ c. omega (arith, inside (c .before .before .before))) (λ c. search needs) loop-again returns)
+pair-mean-spec = tie.close (tie.spec Inv-loop μ-loop loop-holds (λ c. square-fits (c .before .args .n) (c .before .pre)) (λ c. inside c .some) (λ c. inside c .row .fits) (λ c. inside c .row .below) (λ c. inside (c .before) .some) (λ c. inside (c .before) .column .fits) (λ c. inside (c .before) .column .below) (λ c. inside (c .before .before) .pair .fits) (λ c. inside (c .before .before) .pair .below) (λ c. inside (c .before .before .before) .pair .next) (λ c. inside (c .before .before .before) .less) loop-again returns)

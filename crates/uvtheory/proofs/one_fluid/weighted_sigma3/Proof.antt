@@ -1,12 +1,11 @@
-use Prim.Native.Nat.{ℕ, _≤_, _-_, _*_, _/_, _%_}
-use mathlib.Core.Path.{_≡_, refl, ap, _∙_}
+use Prim.Native.Nat.{_≤_, _-_, _*_, _/_, _%_}
+use mathlib.Core.Path.{_≡_, refl}
 use native.Mathlib.Omega.{arith}
-use borrow.Author.Needs.{needs}
 use Rattle.arithmetic.specs.Arithmetic.{sumBy, powerBy}
 use Rattle.arithmetic.specs.Doubles.{guarded}
 use Rattle.uvtheory.specs.Rows.{row, matrix}
 use Rattle.uvtheory.specs.OneFluid as F
-use Rattle.uvtheory.proofs.Loops.{sum-step, at-pair, square-le, Bounds, pair-within}
+use Rattle.uvtheory.proofs.Loops.{sum-step, at-pair, Bounds, pair-within, square-fits}
 use Rattle.uvtheory.proofs.one_fluid.weighted_sigma3.Statement.{statement}
 use Rattle.uvtheory.proofs.one_fluid.weighted_sigma3.Tie as tie
 
@@ -33,7 +32,7 @@ loop-again c = (
 
 returns : tie.Need-returns Inv-loop μ-loop
 unfolding F.pair-mean
-returns c = let e : c .before .loop .k ≡ c .before .before .args .n * c .before .before .args .n = omega arith in c .before .loop .inv .1 ∙ ap (λ (m : ℕ). guarded .sum m (λ l. guarded .mul (guarded .mul (row (c .before .before .args .x .now) (l / c .before .before .args .n)) (row (c .before .before .args .x .now) (l % c .before .before .args .n))) (guarded .powi (matrix (c .before .before .args .n) (c .before .before .args .sigma-ij .now) (l / c .before .before .args .n) (l % c .before .before .args .n)) 3))) e
+returns c = let e : c .before .loop .k ≡ c .before .before .args .n * c .before .before .args .n = omega arith in rw e at (c .before .loop .inv .1)
 
 pub weighted-sigma3-spec : {M : Type 1} → statement M
-weighted-sigma3-spec = tie.close (tie.spec Inv-loop μ-loop loop-holds (λ c. omega (arith, square-le (c .before .args .n) (c .before .pre))) (λ c. omega (arith, inside c)) (λ c. omega (arith, inside c)) (λ c. omega (arith, inside (c .before))) (λ c. omega (arith, inside (c .before))) (λ c. omega (arith, inside (c .before))) (λ c. omega (arith, inside (c .before .before))) (λ c. omega (arith, inside (c .before .before))) (λ c. omega (arith, inside (c .before .before))) (λ c. omega (arith, inside (c .before .before .before))) (λ c. search needs) loop-again returns)
+weighted-sigma3-spec = tie.close (tie.spec Inv-loop μ-loop loop-holds (λ c. square-fits (c .before .args .n) (c .before .pre)) (λ c. inside c .pair .fits) (λ c. inside c .pair .below) (λ c. inside (c .before) .some) (λ c. inside (c .before) .row .fits) (λ c. inside (c .before) .row .below) (λ c. inside (c .before .before) .some) (λ c. inside (c .before .before) .column .fits) (λ c. inside (c .before .before) .column .below) (λ c. inside (c .before .before .before) .pair .next) (λ c. inside (c .before .before .before) .less) loop-again returns)

@@ -2,10 +2,9 @@
 use Prim.Native.Nat.{_≤_, _-_, _*_, _<_}
 use mathlib.Core.Path.{refl}
 use native.Mathlib.Omega.{arith}
-use borrow.Author.Needs.{needs}
 use Rattle.arithmetic.specs.Doubles.{guarded}
 use Rattle.uvtheory.specs.Rows.{parameters}
-use Rattle.uvtheory.proofs.Loops.{row-of, column-of, pair-within, square-le, Filled, one-more, mirror, Bounds}
+use Rattle.uvtheory.proofs.Loops.{row-of, column-of, pair-within, square-le, Filled, one-more, mirror, Bounds, square-fits}
 use Rattle.uvtheory.proofs.parameters.combine.Statement.{statement}
 use Rattle.uvtheory.proofs.parameters.combine.Tie as tie
 
@@ -66,4 +65,4 @@ returns c =
     }
 
 pub combine-spec : {M : Type 1} → statement M
-combine-spec = tie.close (tie.spec Inv-loop μ-loop loop-holds (λ c. omega (arith, square-le (c .before .args .m .n) (c .before .pre))) (λ c. omega (arith, inside c)) (λ c. omega (arith, inside c)) (λ c. omega (arith, inside c)) (λ c. omega (arith, inside c)) (λ c. omega (arith, inside c)) (λ c. omega (arith, inside c)) (λ c. omega (arith, inside c)) (λ c. omega (arith, inside c)) (λ c. omega (arith, inside c)) (λ c. omega (arith, inside c)) (λ c. omega (arith, inside c)) (λ c. omega (arith, inside c)) pair-at-requires (λ c. omega (arith, inside (c .before))) (λ c. omega (arith, inside (c .before))) (λ c. omega (arith, inside (c .before))) (λ c. omega (arith, inside (c .before))) (λ c. omega (arith, inside (c .before))) (λ c. omega (arith, inside (c .before))) (λ c. omega (arith, inside (c .before))) (λ c. omega (arith, inside (c .before))) (λ c. omega (arith, inside (c .before))) (λ c. search needs) loop-again returns)
+combine-spec = tie.close (tie.spec Inv-loop μ-loop loop-holds (λ c. square-fits (c .before .args .m .n) (c .before .pre)) (λ c. inside c .some) (λ c. inside c .some) (λ c. inside c .mirror-row) (λ c. inside c .mirror-place) (λ c. inside c .mirror .fits) (λ c. inside c .mirror .below) (λ c. inside c .mirror .fits) (λ c. inside c .mirror .below) (λ c. inside c .mirror .fits) (λ c. inside c .mirror .below) (λ c. inside c .mirror .fits) (λ c. inside c .mirror .below) pair-at-requires (λ c. inside (c .before) .pair .fits) (λ c. inside (c .before) .pair .below) (λ c. inside (c .before) .pair .fits) (λ c. inside (c .before) .pair .below) (λ c. inside (c .before) .pair .fits) (λ c. inside (c .before) .pair .below) (λ c. inside (c .before) .pair .fits) (λ c. inside (c .before) .pair .below) (λ c. inside (c .before) .pair .next) (λ c. inside (c .before) .less) loop-again returns)

@@ -1,12 +1,11 @@
-use Prim.Native.Nat.{ℕ, _≤_, _-_, _*_, _/_, _%_}
-use mathlib.Core.Path.{_≡_, refl, ap, _∙_}
+use Prim.Native.Nat.{_≤_, _-_, _*_, _/_, _%_}
+use mathlib.Core.Path.{_≡_, refl}
 use native.Mathlib.Omega.{arith}
-use borrow.Author.Needs.{needs}
 use Rattle.arithmetic.specs.Arithmetic.{sumBy, powerBy}
 use Rattle.arithmetic.specs.Doubles.{guarded}
 use Rattle.uvtheory.specs.Rows.{row, matrix}
 use Rattle.uvtheory.specs.Bh.ReferencePerturbation as F
-use Rattle.uvtheory.proofs.Loops.{sum-step, at-pair, square-le, Bounds, pair-within}
+use Rattle.uvtheory.proofs.Loops.{sum-step, at-pair, Bounds, pair-within, square-fits}
 use Rattle.uvtheory.proofs.bh.reference_perturbation.pair_sum.Statement.{statement}
 use Rattle.uvtheory.proofs.bh.reference_perturbation.pair_sum.Tie as tie
 
@@ -32,7 +31,7 @@ loop-again c = (
 )
 
 returns : tie.Need-returns Inv-loop μ-loop
-returns c = let e : c .before .loop .k ≡ c .before .before .args .n * c .before .before .args .n = omega arith in c .before .loop .inv .1 ∙ ap (λ (m : ℕ). guarded .sum m (λ l. F.term-ij guarded (row (c .before .before .args .x .now)) (row (c .before .before .args .d .now)) (row (c .before .before .args .sigma .now)) (matrix (c .before .before .args .n) (c .before .before .args .sigma-ij .now)) (matrix (c .before .before .args .n) (c .before .before .args .rep-ij .now)) (c .before .before .args .eta) (l / c .before .before .args .n) (l % c .before .before .args .n))) e
+returns c = let e : c .before .loop .k ≡ c .before .before .args .n * c .before .before .args .n = omega arith in rw e at (c .before .loop .inv .1)
 
 pub pair-sum-spec : {M : Type 1} → statement M
-pair-sum-spec = tie.close (tie.spec Inv-loop μ-loop loop-holds (λ c. omega (arith, square-le (c .before .args .n) (c .before .pre))) (λ c. omega (arith, inside c)) (λ c. omega (arith, inside c)) (λ c. omega (arith, inside c)) (λ c. omega (arith, inside c)) (λ c. omega (arith, inside (c .before))) (λ c. omega (arith, inside (c .before))) (λ c. omega (arith, inside (c .before .before))) (λ c. omega (arith, inside (c .before .before))) (λ c. omega (arith, inside (c .before .before .before))) (λ c. omega (arith, inside (c .before .before .before))) (λ c. omega (arith, inside (c .before .before .before .before))) (λ c. omega (arith, inside (c .before .before .before .before))) (λ c. omega (arith, inside (c .before .before .before .before .before))) (λ c. omega (arith, inside (c .before .before .before .before .before))) (λ c. omega (arith, inside (c .before .before .before .before .before .before))) (λ c. omega (arith, inside (c .before .before .before .before .before .before))) (λ c. omega (arith, inside (c .before .before .before .before .before .before .before))) (λ c. omega (arith, inside (c .before .before .before .before .before .before .before))) (λ c κs. tt) (λ c. omega (arith, inside (c .before .before .before .before .before .before .before .before .before))) (λ c. search needs) loop-again returns)
+pair-sum-spec = tie.close (tie.spec Inv-loop μ-loop loop-holds (λ c. square-fits (c .before .args .n) (c .before .pre)) (λ c. inside c .some) (λ c. inside c .some) (λ c. inside c .row .fits) (λ c. inside c .row .below) (λ c. inside (c .before) .column .fits) (λ c. inside (c .before) .column .below) (λ c. inside (c .before .before) .row .fits) (λ c. inside (c .before .before) .row .below) (λ c. inside (c .before .before .before) .column .fits) (λ c. inside (c .before .before .before) .column .below) (λ c. inside (c .before .before .before .before) .row .fits) (λ c. inside (c .before .before .before .before) .row .below) (λ c. inside (c .before .before .before .before .before) .column .fits) (λ c. inside (c .before .before .before .before .before) .column .below) (λ c. inside (c .before .before .before .before .before .before) .pair .fits) (λ c. inside (c .before .before .before .before .before .before) .pair .below) (λ c. inside (c .before .before .before .before .before .before .before) .pair .fits) (λ c. inside (c .before .before .before .before .before .before .before) .pair .below) (λ c κs. tt) (λ c. inside (c .before .before .before .before .before .before .before .before .before) .pair .next) (λ c. inside (c .before .before .before .before .before .before .before .before .before) .less) loop-again returns)

@@ -3,13 +3,12 @@ use Prim.Native.Nat.{ℕ, _≤_, _<_, _-_, _*_}
 use mathlib.Core.Path.{refl, _∙_}
 use mathlib.Core.List.{List}
 use native.Mathlib.Omega.{arith}
-use borrow.Author.Needs.{needs}
 use lib.Ieee.{Float}
 use Rattle.arithmetic.specs.Doubles.{guarded}
 use Rattle.uvtheory.specs.Rows.{row, matrix}
 use Rattle.uvtheory.specs.Literals as N
 use Rattle.uvtheory.specs.Wca.AttractivePerturbationUvb3 as F
-use Rattle.uvtheory.proofs.Loops.{at-pair, pair-within, square-le, Filled, one-more, Bounds}
+use Rattle.uvtheory.proofs.Loops.{at-pair, pair-within, square-le, Filled, one-more, Bounds, square-fits}
 use Rattle.uvtheory.proofs.wca.attractive_perturbation_uvb3.delta_b3_ij.Statement.{statement}
 use Rattle.uvtheory.proofs.wca.attractive_perturbation_uvb3.delta_b3_ij.Tie as tie
 
@@ -45,4 +44,4 @@ returns : tie.Need-returns Inv-loop μ-loop
 returns c = λ k h. c .before .loop .inv .1 .1 k (omega arith)
 
 pub delta-b3-ij-spec : {M : Type 1} → statement M
-delta-b3-ij-spec = tie.close (tie.spec Inv-loop μ-loop loop-holds (λ c. omega (arith, square-le (c .before .before .before .before .before .args .n) (c .before .before .before .before .before .pre))) (λ c. omega (arith, inside c)) (λ c. omega (arith, inside c)) (λ c. omega (arith, inside c)) (λ c. omega (arith, inside c)) (λ c. omega (arith, inside c)) (λ c. omega (arith, inside c)) (λ c. omega (arith, inside c)) (λ c. omega (arith, inside c)) (λ c. omega (arith, inside c)) (λ c. omega (arith, inside c)) (λ c. omega (arith, inside c)) (λ c. omega (arith, inside c)) (λ c. omega (arith, inside (c .before))) (λ c. omega (arith, inside (c .before))) (λ c. omega (arith, inside (c .before .before))) (λ c. omega (arith, inside (c .before .before))) (λ c. omega (arith, inside (c .before .before .before))) (λ c. omega (arith, inside (c .before .before .before))) (λ c κs. tt) (λ c. omega (arith, inside (c .before .before .before .before .before))) (λ c. omega (arith, inside (c .before .before .before .before .before))) (λ c. omega (arith, inside (c .before .before .before .before .before))) (λ c. search needs) loop-again returns)
+delta-b3-ij-spec = tie.close (tie.spec Inv-loop μ-loop loop-holds (λ c. square-fits (c .before .before .before .before .before .args .n) (c .before .before .before .before .before .pre)) (λ c. inside c .some) (λ c. inside c .some) (λ c. inside c .pair .fits) (λ c. inside c .pair .below) (λ c. inside c .pair .fits) (λ c. inside c .pair .below) (λ c. inside c .pair .fits) (λ c. inside c .pair .below) (λ c. inside c .pair .fits) (λ c. inside c .pair .below) (λ c. inside c .row .fits) (λ c. inside c .row .below) (λ c. inside (c .before) .row .fits) (λ c. inside (c .before) .row .below) (λ c. inside (c .before .before) .column .fits) (λ c. inside (c .before .before) .column .below) (λ c. inside (c .before .before .before) .column .fits) (λ c. inside (c .before .before .before) .column .below) (λ c κs. tt) (λ c. inside (c .before .before .before .before .before) .pair .fits) (λ c. inside (c .before .before .before .before .before) .pair .below) (λ c. inside (c .before .before .before .before .before) .pair .next) (λ c. inside (c .before .before .before .before .before) .less) loop-again returns)

@@ -1,6 +1,6 @@
 -- The loop's invariant: after m turns the sum has m terms after the first, and the power is beta^(m + 1).
-use Prim.Native.Nat.{ℕ, suc, _-_, _≤_}
-use mathlib.Core.Path.{_≡_, refl, ap, _∙_}
+use Prim.Native.Nat.{suc, _-_, _≤_}
+use mathlib.Core.Path.{_≡_, refl}
 use native.Mathlib.Omega.{arith}
 use native.Mathlib.Numerals.{add-one}
 use borrow.Author.Needs.{needs}
@@ -27,7 +27,7 @@ loop-again c =
     (omega arith, rw (add-one (l .m), c .div .ensures, l .inv .1, l .inv .2), rw (add-one (l .m), l .inv .2))
 
 returns : tie.Need-returns Inv-loop μ-loop
-returns c = let e : c .before .loop .m ≡ 14 = omega arith in c .before .loop .inv .1 ∙ ap (λ (k : ℕ). F.sum-beta guarded k (c .before .before .args .beta)) e
+returns c = let e : c .before .loop .m ≡ 14 = omega arith in rw e at (c .before .loop .inv .1)
 
 pub sum-beta-spec : {M : Type 1} → statement M
 sum-beta-spec = tie.close (tie.spec Inv-loop μ-loop loop-holds (λ c. search needs) (λ c. search needs) (λ c. search needs) (λ c. search needs) (λ c κs. tt) (λ c. search needs) (λ c. search needs) loop-again returns)

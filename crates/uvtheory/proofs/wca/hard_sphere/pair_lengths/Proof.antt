@@ -3,12 +3,11 @@ use Prim.Native.Nat.{ℕ, _≤_, _<_, _-_, _*_}
 use mathlib.Core.Path.{refl, _∙_}
 use mathlib.Core.List.{List}
 use native.Mathlib.Omega.{arith}
-use borrow.Author.Needs.{needs}
 use lib.Ieee.{Float}
 use Rattle.arithmetic.specs.Doubles.{guarded}
 use Rattle.uvtheory.specs.Rows.{matrix}
 use Rattle.uvtheory.specs.Wca.HardSphere as F
-use Rattle.uvtheory.proofs.Loops.{at-pair, pair-within, square-le, Filled, one-more, mirror, Bounds}
+use Rattle.uvtheory.proofs.Loops.{at-pair, pair-within, square-le, Filled, one-more, mirror, Bounds, square-fits}
 use Rattle.uvtheory.proofs.wca.hard_sphere.pair_lengths.Statement.{statement}
 use Rattle.uvtheory.proofs.wca.hard_sphere.pair_lengths.Tie as tie
 
@@ -56,4 +55,4 @@ returns : tie.Need-returns Inv-loop μ-loop
 returns c = ((λ k h. c .before .loop .inv .1 .1 k (omega arith)), (λ k h. c .before .loop .inv .2 .1 k (omega arith)))
 
 pub pair-lengths-spec : {M : Type 1} → statement M
-pair-lengths-spec = tie.close (tie.spec Inv-loop μ-loop loop-holds (λ c. omega (arith, square-le (c .before .before .before .before .args .n) (c .before .before .before .before .pre .0))) (λ c. omega (arith, inside c)) (λ c. omega (arith, inside c)) (λ c. omega (arith, inside c)) (λ c. omega (arith, inside c)) (λ c. omega (arith, inside c)) (λ c. omega (arith, inside c)) (λ c. omega (arith, inside c)) (λ c. omega (arith, inside c)) (λ c. omega (arith, inside c)) (λ c. omega (arith, inside c)) (λ c. omega (arith, inside c)) (λ c. omega (arith, inside c)) (λ c. omega (arith, inside c)) (λ c. omega (arith, inside c)) (λ c. omega (arith, inside c)) (λ c. omega (arith, inside c)) pair-lengths-at-requires (λ c. omega (arith, inside (c .before))) (λ c. omega (arith, inside (c .before))) (λ c. omega (arith, inside (c .before))) (λ c. omega (arith, inside (c .before))) (λ c. omega (arith, inside (c .before))) (λ c. search needs) loop-again returns)
+pair-lengths-spec = tie.close (tie.spec Inv-loop μ-loop loop-holds (λ c. square-fits (c .before .before .before .before .args .n) (c .before .before .before .before .pre .0)) (λ c. inside c .some) (λ c. inside c .some) (λ c. inside c .mirror-row) (λ c. inside c .mirror-place) (λ c. inside c .mirror .fits) (λ c. inside c .mirror .below) (λ c. inside c .mirror-row) (λ c. inside c .mirror-place) (λ c. inside c .mirror .fits) (λ c. inside c .mirror .below) (λ c. inside c .pair .fits) (λ c. inside c .pair .below) (λ c. inside c .pair .fits) (λ c. inside c .pair .below) (λ c. inside c .pair .fits) (λ c. inside c .pair .below) pair-lengths-at-requires (λ c. inside (c .before) .pair .fits) (λ c. inside (c .before) .pair .below) (λ c. inside (c .before) .pair .fits) (λ c. inside (c .before) .pair .below) (λ c. inside (c .before) .pair .next) (λ c. inside (c .before) .less) loop-again returns)
