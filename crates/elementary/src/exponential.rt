@@ -45,10 +45,11 @@ const FACTORIALS: [f64; 14] = [
 fn exp_series(r: f64) -> f64
     ensures { λ x. ⌜ x ≡ R.horner plain r K.one K.factorialReciprocals ⌝ }
 {
-    let p = ((FACTORIALS[13] * r + FACTORIALS[12]) * r + FACTORIALS[11]) * r + FACTORIALS[10];
-    let p = (((p * r + FACTORIALS[9]) * r + FACTORIALS[8]) * r + FACTORIALS[7]) * r + FACTORIALS[6];
-    let p = (((p * r + FACTORIALS[5]) * r + FACTORIALS[4]) * r + FACTORIALS[3]) * r + FACTORIALS[2];
-    (p * r + FACTORIALS[1]) * r + FACTORIALS[0]
+    let c = FACTORIALS;
+    let p = ((c[13] * r + c[12]) * r + c[11]) * r + c[10];
+    let p = (((p * r + c[9]) * r + c[8]) * r + c[7]) * r + c[6];
+    let p = (((p * r + c[5]) * r + c[4]) * r + c[3]) * r + c[2];
+    (p * r + c[1]) * r + c[0]
 }
 
 // The greatest whole number that is not above x, for an x whose floor is the exponent of a normal double.

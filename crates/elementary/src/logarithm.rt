@@ -38,10 +38,11 @@ const ODDS: [f64; 13] = [
 fn odd_series(z: f64) -> f64
     ensures { λ r. ⌜ r ≡ R.horner plain z K.one K.oddReciprocals ⌝ }
 {
-    let p = ((ODDS[12] * z + ODDS[11]) * z + ODDS[10]) * z + ODDS[9];
-    let p = (((p * z + ODDS[8]) * z + ODDS[7]) * z + ODDS[6]) * z + ODDS[5];
-    let p = (((p * z + ODDS[4]) * z + ODDS[3]) * z + ODDS[2]) * z + ODDS[1];
-    p * z + ODDS[0]
+    let c = ODDS;
+    let p = ((c[12] * z + c[11]) * z + c[10]) * z + c[9];
+    let p = (((p * z + c[8]) * z + c[7]) * z + c[6]) * z + c[5];
+    let p = (((p * z + c[4]) * z + c[3]) * z + c[2]) * z + c[1];
+    p * z + c[0]
 }
 
 // (2s) * p.

@@ -99,14 +99,15 @@ pub fn bh_coefficients(rep: f64, inv_a76: f64) -> [f64; 5]
     requires { ⌜ «inv_a76» ≡ F.inv-a76 guarded N.six ⌝ }
     ensures { λ r. ⌜ r ≡ F.bh-coefficients guarded rep N.six 0 ∷ F.bh-coefficients guarded rep N.six 1 ∷ F.bh-coefficients guarded rep N.six 2 ∷ F.bh-coefficients guarded rep N.six 3 ∷ F.bh-coefficients guarded rep N.six 4 ∷ [] ⌝ }
 {
+    let k = CD_BH;
     let c = mie_prefactor(rep, 6.0);
     let alpha = div(1.0, mean_field_of(c, rep, 6.0, 1.0)) - inv_a76;
     [
         div(-2.0 * rep, (6.0 - rep) * c),
-        cd_bh_times(CD_BH[0], alpha),
-        cd_bh_times(CD_BH[1], alpha),
-        cd_bh_times(CD_BH[2], alpha),
-        cd_bh_times(CD_BH[3], alpha),
+        cd_bh_times(k[0], alpha),
+        cd_bh_times(k[1], alpha),
+        cd_bh_times(k[2], alpha),
+        cd_bh_times(k[3], alpha),
     ]
 }
 

@@ -63,9 +63,10 @@ fn delta_b12u(t_x: f64, mean_field_constant_x: f64, weighted_sigma3_ij: f64) -> 
 fn beta_eff(beta: f64, rep: f64, c0: f64) -> f64
     ensures { λ r. ⌜ r ≡ F.beta-eff guarded beta rep c0 ⌝ }
 {
-    let c1 = C2[0][0] + div(C2[0][1], rep);
-    let c2 = C2[1][0] + div(C2[1][1], rep);
-    let c3 = C2[2][0] + div(C2[2][1], rep);
+    let c = C2;
+    let c1 = c[0][0] + div(c[0][1], rep);
+    let c2 = c[1][0] + div(c[1][1], rep);
+    let c3 = c[2][0] + div(c[2][1], rep);
     beta * (-div(1.0, beta * (beta * c2 + beta * beta * beta * c3 + c1) + 1.0) * c0 + 1.0)
 }
 
@@ -157,11 +158,12 @@ fn activation(c: f64, one_fluid_beta: f64) -> f64
 fn u_fraction_bh(rep_x: f64, reduced_density: f64, one_fluid_beta: f64) -> f64
     ensures { λ r. ⌜ r ≡ F.u-fraction-bh guarded «rep_x» «reduced_density» «one_fluid_beta» ⌝ }
 {
+    let c = CU_BH;
     let inv_rep = div(1.0, rep_x);
-    let c0 = inv_rep * CU_BH[0][1] + CU_BH[0][0];
-    let c1 = inv_rep * CU_BH[1][1] + CU_BH[1][0];
-    let c2 = inv_rep * CU_BH[2][1] + CU_BH[2][0];
-    let c3 = inv_rep * CU_BH[3][1] + CU_BH[3][0];
+    let c0 = inv_rep * c[0][1] + c[0][0];
+    let c1 = inv_rep * c[1][1] + c[1][0];
+    let c2 = inv_rep * c[2][1] + c[2][0];
+    let c3 = inv_rep * c[3][1] + c[3][0];
     (activation(c1, one_fluid_beta) * (-c0 + 1.0) + c0)
         * tanh(powf(reduced_density, 1.2187) * c2 + powf(reduced_density, 4.2773) * c3)
 }

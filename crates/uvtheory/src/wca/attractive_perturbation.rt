@@ -112,14 +112,15 @@ fn coefficient(c: [f64; 6], rep_inv: f64, tau_x: f64) -> f64
 fn correlation_quotient(c: f64, rho_x: f64, rep_inv: f64, tau_x: f64) -> f64
     ensures { λ r. ⌜ r ≡ F.correlation-quotient guarded c «rho_x» «rep_inv» «tau_x» ⌝ }
 {
+    let k = C_WCA;
     let rho2 = rho_x * rho_x;
     let rho3 = rho2 * rho_x;
-    let over = coefficient(C_WCA[0], rep_inv, tau_x) * rho_x
-        + coefficient(C_WCA[1], rep_inv, tau_x) * rho2
-        + coefficient(C_WCA[2], rep_inv, tau_x) * rho3;
-    let under = coefficient(C_WCA[3], rep_inv, tau_x) * rho_x
-        + coefficient(C_WCA[4], rep_inv, tau_x) * rho2
-        + coefficient(C_WCA[5], rep_inv, tau_x) * rho3
+    let over = coefficient(k[0], rep_inv, tau_x) * rho_x
+        + coefficient(k[1], rep_inv, tau_x) * rho2
+        + coefficient(k[2], rep_inv, tau_x) * rho3;
+    let under = coefficient(k[3], rep_inv, tau_x) * rho_x
+        + coefficient(k[4], rep_inv, tau_x) * rho2
+        + coefficient(k[5], rep_inv, tau_x) * rho3
         + 1.0;
     div(c * over, under)
 }
@@ -151,9 +152,10 @@ fn u_fraction_wca(rep_x: f64, reduced_density: f64) -> f64
 fn beta_eff(beta: f64, rep: f64, c0: f64) -> f64
     ensures { λ r. ⌜ r ≡ F.beta-eff guarded beta rep c0 ⌝ }
 {
-    let c1 = C2[0][0] + div(C2[0][1], rep);
-    let c2 = C2[1][0] + div(C2[1][1], rep);
-    let c3 = C2[2][0] + div(C2[2][1], rep);
+    let c = C2;
+    let c1 = c[0][0] + div(c[0][1], rep);
+    let c2 = c[1][0] + div(c[1][1], rep);
+    let c3 = c[2][0] + div(c[2][1], rep);
     let s = powf(beta, 1.05968091375869) * c1
         + powf(beta, 3.41106168592999) * c2
         + powf(beta, 0.0) * c3;

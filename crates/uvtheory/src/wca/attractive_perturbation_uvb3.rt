@@ -120,10 +120,11 @@ fn omega(t_x: f64, e: f64) -> f64
 fn u_fraction_wca(rep_x: f64, reduced_density: f64, t_x: f64) -> f64
     ensures { λ r. ⌜ r ≡ F.u-fraction-wca guarded «rep_x» «reduced_density» «t_x» ⌝ }
 {
-    let s = reduced_density - CU_WCA[6];
-    let omega = omega(t_x, exp(-t_x * CU_WCA[5] * (s * s)));
+    let c = CU_WCA;
+    let s = reduced_density - c[6];
+    let omega = omega(t_x, exp(-t_x * c[5] * (s * s)));
     let rho2 = reduced_density * reduced_density;
-    -exp(-(rho2 * (div(1.0, rep_x + CU_WCA[4]) * CU_WCA[3] + CU_WCA[2]) + omega)) + 1.0
+    -exp(-(rho2 * (div(1.0, rep_x + c[4]) * c[3] + c[2]) + omega)) + 1.0
 }
 
 // A coefficient by its row of C_B2_RSAP, and the reciprocals of rep and its powers.
@@ -152,6 +153,7 @@ fn sum_beta(beta: f64) -> f64
 pub fn delta_b2(reduced_temperature: f64, rep: f64, q: f64, rm: f64) -> f64
     ensures { λ r. ⌜ r ≡ F.delta-b2-of guarded «reduced_temperature» rep q rm ⌝ }
 {
+    let c = C_B2_RSAP;
     let beta = div(1.0, reduced_temperature);
     let b20 = div(q * q * q * 2.0, 3.0) * PI;
     let y = exp(beta) - 1.0;
@@ -159,10 +161,10 @@ pub fn delta_b2(reduced_temperature: f64, rep: f64, q: f64, rm: f64) -> f64
     let r1 = div(1.0, rep);
     let r2 = div(1.0, rep2);
     let r3 = div(1.0, rep2 * rep);
-    (b20 - div(rm * rm * rm * 2.0, 3.0) * PI - coefficient_rsap(C_B2_RSAP[0], r1, r2, r3)) * y
-        - sum_beta(beta) * coefficient_rsap(C_B2_RSAP[1], r1, r2, r3)
-        - beta * coefficient_rsap(C_B2_RSAP[2], r1, r2, r3)
-        - beta * beta * coefficient_rsap(C_B2_RSAP[3], r1, r2, r3)
+    (b20 - div(rm * rm * rm * 2.0, 3.0) * PI - coefficient_rsap(c[0], r1, r2, r3)) * y
+        - sum_beta(beta) * coefficient_rsap(c[1], r1, r2, r3)
+        - beta * coefficient_rsap(c[2], r1, r2, r3)
+        - beta * beta * coefficient_rsap(c[3], r1, r2, r3)
 }
 
 // By the prefactor c of nu and att.

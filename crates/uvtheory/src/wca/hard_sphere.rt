@@ -83,9 +83,10 @@ pub fn coefficient_q(c: [f64; 4], nu: f64) -> f64
 fn polynomial_q(t_x: f64, nu: f64, n: f64) -> f64
     ensures { λ r. ⌜ r ≡ F.polynomial-q guarded «t_x» nu n ⌝ }
 {
-    powf(t_x, 2.0) * coefficient_q(WCA_CONSTANTS_Q[2], nu)
-        + powf(t_x, div(3.0, 2.0)) * coefficient_q(WCA_CONSTANTS_Q[1], nu)
-        + t_x * ((nu - 7.0) * WCA_CONSTANTS_Q[0][1] + WCA_CONSTANTS_Q[0][0])
+    let c = WCA_CONSTANTS_Q;
+    powf(t_x, 2.0) * coefficient_q(c[2], nu)
+        + powf(t_x, div(3.0, 2.0)) * coefficient_q(c[1], nu)
+        + t_x * ((nu - 7.0) * c[0][1] + c[0][0])
         + powf(t_x, div(1.0, 2.0)) * sqrt(div(nu * 2.0 * PI, n))
         + 1.0
 }
