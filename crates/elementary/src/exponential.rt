@@ -1,5 +1,6 @@
 // exp, powf and tanh by the recipes of document 01.
 use crate::basic::div;
+use crate::basic::horner;
 use crate::basic::is_finite;
 use crate::logarithm::ln;
 ghost use mathlib.Core.Path.{_≡_};
@@ -12,7 +13,6 @@ ghost use lib.Ieee.Scale.{finite};
 ghost use Rattle.arithmetic.specs.Fraction.{_≼_, _≺_, whole};
 ghost use Rattle.arithmetic.specs.Value.{value};
 ghost use Rattle.arithmetic.specs.Cases.{floorOf};
-ghost use Rattle.arithmetic.specs.Constants as K;
 ghost use Rattle.arithmetic.specs.Recipes as R;
 ghost use Rattle.arithmetic.specs.Doubles.{plain, guarded};
 
@@ -41,17 +41,6 @@ const FACTORIALS: [f64; 14] = [
     1.6059043836821613e-10,
 ];
 
-// Horner in r over 1/j!.
-fn exp_series(r: f64) -> f64
-    ensures { λ x. ⌜ x ≡ R.horner plain r K.one K.factorialReciprocals ⌝ }
-{
-    let c = FACTORIALS;
-    let p = ((c[13] * r + c[12]) * r + c[11]) * r + c[10];
-    let p = (((p * r + c[9]) * r + c[8]) * r + c[7]) * r + c[6];
-    let p = (((p * r + c[5]) * r + c[4]) * r + c[3]) * r + c[2];
-    (p * r + c[1]) * r + c[0]
-}
-
 // The greatest whole number that is not above x, for an x whose floor is the exponent of a normal double.
 fn floor(x: f64) -> i64
     requires { ⌜ T (finite x) × (whole (negsuc 1021) ≼ value x) × (value x ≺ whole (pos 1024)) ⌝ }
@@ -75,7 +64,8 @@ fn exp_of(v: f64, k: i64) -> f64
     ensures { λ r. ⌜ r ≡ R.expOf plain v k ⌝ }
 {
     let w = k as f64;
-    exp_series(v - w * H - w * G) * power_of_two(k)
+    let c = FACTORIALS;
+    horner(&c, v - w * H - w * G) * power_of_two(k)
 }
 
 // e^v. Below -700 it is 0; above 700 there is no rule.

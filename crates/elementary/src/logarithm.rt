@@ -1,5 +1,6 @@
 // ln and ln_1p by the recipes of document 01.
 use crate::basic::div;
+use crate::basic::horner;
 use crate::basic::is_finite;
 use crate::parts::parts;
 ghost use mathlib.Core.Path.{_≡_};
@@ -10,7 +11,6 @@ ghost use lib.IntN.{negℤ};
 ghost use lib.Ieee.{binary64, ofBits, inFloat};
 ghost use Rattle.arithmetic.specs.Value.{value};
 ghost use Rattle.arithmetic.specs.Cases.{exponentOf};
-ghost use Rattle.arithmetic.specs.Constants as K;
 ghost use Rattle.arithmetic.specs.Recipes as R;
 ghost use Rattle.arithmetic.specs.Doubles.{plain, guarded, scaled};
 
@@ -34,22 +34,12 @@ const ODDS: [f64; 13] = [
     0.04,
 ];
 
-// Horner in z over 1/(2k+1).
-fn odd_series(z: f64) -> f64
-    ensures { λ r. ⌜ r ≡ R.horner plain z K.one K.oddReciprocals ⌝ }
-{
-    let c = ODDS;
-    let p = ((c[12] * z + c[11]) * z + c[10]) * z + c[9];
-    let p = (((p * z + c[8]) * z + c[7]) * z + c[6]) * z + c[5];
-    let p = (((p * z + c[4]) * z + c[3]) * z + c[2]) * z + c[1];
-    p * z + c[0]
-}
-
 // (2s) * p.
 fn series(s: f64) -> f64
     ensures { λ r. ⌜ r ≡ R.series plain s ⌝ }
 {
-    2.0 * s * odd_series(s * s)
+    let c = ODDS;
+    2.0 * s * horner(&c, s * s)
 }
 
 // m * 2^e with 0.75 <= m < 1.5.
