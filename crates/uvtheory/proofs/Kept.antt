@@ -73,7 +73,7 @@ module _ (A B : Arithmetic) (R : A .Value → B .Value → Type 0) (K : Kept A B
       bh-sphere = (Bh.residual-helmholtz-energy-contributions AB pars s .hard-sphere) .holds
 
       bh-reference : R (Bh.residual-helmholtz-energy-contributions A left sl .reference) (Bh.residual-helmholtz-energy-contributions B right sr .reference)
-      unfolding BhR.helmholtz-energy-density BhR.term-of BhR.term BhS.tau RE.energy P.packing-fraction P.packing-fraction-a P.packing-fraction-b BhS.diameter-bh BhS.diameter-of bh-coefficient mie-prefactor mean-field-of
+      unfolding BhR.helmholtz-energy-density BhR.term-of BhR.term BhS.tau RE.energy P.packing-fraction P.packing-fraction-a P.coefficient-a P.packing-fraction-b P.coefficient-b BhS.diameter-bh BhS.diameter-of bh-coefficient mie-prefactor mean-field-of
       bh-reference = (Bh.residual-helmholtz-energy-contributions AB pars s .reference) .holds
 
       bh-attractive : R (Bh.residual-helmholtz-energy-contributions A left sl .attractive) (Bh.residual-helmholtz-energy-contributions B right sr .attractive)
@@ -85,7 +85,7 @@ module _ (A B : Arithmetic) (R : A .Value → B .Value → Type 0) (K : Kept A B
       wca-sphere = (Wca.residual-helmholtz-energy-contributions AB pars s .hard-sphere) .holds
 
       wca-reference : R (Wca.residual-helmholtz-energy-contributions A left sl .reference) (Wca.residual-helmholtz-energy-contributions B right sr .reference)
-      unfolding WcaR.helmholtz-energy-density WcaR.term-of WcaR.term RE.energy P.packing-fraction P.packing-fraction-a P.packing-fraction-b WcaS.diameter-wca WcaS.diameter-of WcaS.rm-of WcaS.q-of WcaS.polynomial-q WcaS.coefficient-q WcaS.dimensionless-length-scale WcaS.tau
+      unfolding WcaR.helmholtz-energy-density WcaR.term-of WcaR.term RE.energy P.packing-fraction P.packing-fraction-a P.coefficient-a P.packing-fraction-b P.coefficient-b WcaS.diameter-wca WcaS.diameter-of WcaS.rm-of WcaS.q-of WcaS.polynomial-q WcaS.coefficient-q WcaS.dimensionless-length-scale WcaS.tau
       wca-reference = (Wca.residual-helmholtz-energy-contributions AB pars s .reference) .holds
 
       wca-attractive : R (Wca.residual-helmholtz-energy-contributions A left sl .attractive) (Wca.residual-helmholtz-energy-contributions B right sr .attractive)
@@ -93,7 +93,7 @@ module _ (A B : Arithmetic) (R : A .Value → B .Value → Type 0) (K : Kept A B
       wca-attractive = (Wca.residual-helmholtz-energy-contributions AB pars s .attractive) .holds
 
       b3-reference : R (Wca.residual-helmholtz-energy-contributions-b3 A left sl .reference) (Wca.residual-helmholtz-energy-contributions-b3 B right sr .reference)
-      unfolding WcaR.helmholtz-energy-density WcaR.term-of WcaR.term RE.energy P.packing-fraction P.packing-fraction-a P.packing-fraction-b WcaS.diameter-wca WcaS.diameter-of WcaS.rm-of WcaS.q-of WcaS.polynomial-q WcaS.coefficient-q WcaS.dimensionless-length-scale WcaS.tau
+      unfolding WcaR.helmholtz-energy-density WcaR.term-of WcaR.term RE.energy P.packing-fraction P.packing-fraction-a P.coefficient-a P.packing-fraction-b P.coefficient-b WcaS.diameter-wca WcaS.diameter-of WcaS.rm-of WcaS.q-of WcaS.polynomial-q WcaS.coefficient-q WcaS.dimensionless-length-scale WcaS.tau
       b3-reference = (Wca.residual-helmholtz-energy-contributions-b3 AB pars s .reference) .holds
 
       b3-attractive : R (Wca.residual-helmholtz-energy-contributions-b3 A left sl .attractive) (Wca.residual-helmholtz-energy-contributions-b3 B right sr .attractive)

@@ -13,17 +13,20 @@ module _ (A : Arithmetic) where
   unfoldable pub packing-fraction : ℕ → (ℕ → Value) → (ℕ → Value) → Value
   packing-fraction n partial-density diameter = sum n (λ i. partial-density i * diameter i ^ 3 * (constant PI / constant six))
 
-  -- by the table B of `..ETA_B`
+  -- a coefficient by its row b of `..ETA_B`, and all by the table B
+  unfoldable pub coefficient-b : (ℕ → Float) → Value → Value
+  coefficient-b b tau = tau * constant (b 0) + tau * tau * constant (b 1)
+
   unfoldable pub packing-fraction-b : (ℕ → ℕ → Float) → Value → Value → Value
   packing-fraction-b B eta tau =
-      let tau2 = tau * tau in
-      let c : ℕ → Value = λ k. tau * constant (B k 0) + tau2 * constant (B k 1) in
+      let c : ℕ → Value = λ k. coefficient-b (B k) tau in
       eta + eta * c 0 + eta * eta * c 1 + eta ^ 3 * c 2
 
-  -- by the table T of `..ETA_A`
+  -- a coefficient by its row a of `..ETA_A`, and all by the table T
+  unfoldable pub coefficient-a : (ℕ → Float) → Value → Value → Value
+  coefficient-a a tau rep-inv = tau * (constant (a 0) + constant (a 1) * rep-inv) + tau * tau * (constant (a 2) + constant (a 3) * rep-inv)
+
   unfoldable pub packing-fraction-a : (ℕ → ℕ → Float) → Value → Value → Value → Value
   packing-fraction-a T eta tau rep-ij =
-      let tau2 = tau * tau in
-      let rep-inv = constant one / rep-ij in
-      let c : ℕ → Value = λ k. tau * (constant (T k 0) + constant (T k 1) * rep-inv) + tau2 * (constant (T k 2) + constant (T k 3) * rep-inv) in
+      let c : ℕ → Value = λ k. coefficient-a (T k) tau (constant one / rep-ij) in
       eta + eta * c 0 + eta * eta * c 1 + eta ^ 3 * c 2 + eta ^ 4 * c 3

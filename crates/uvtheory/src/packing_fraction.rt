@@ -23,25 +23,37 @@ pub fn packing_fraction(n: usize, partial_density: &[f64; 8], diameter: &[f64; 8
     eta
 }
 
+// A coefficient by its row of ..ETA_B.
+fn coefficient_b(b: [f64; 2], tau: f64) -> f64
+    ensures { λ r. ⌜ r ≡ F.coefficient-b guarded (row b) tau ⌝ }
+{
+    tau * b[0] + tau * tau * b[1]
+}
+
 pub fn packing_fraction_b(b: [[f64; 2]; 3], eta: f64, tau: f64) -> f64
     ensures { λ r. ⌜ r ≡ F.packing-fraction-b guarded (table b) eta tau ⌝ }
 {
-    let tau2 = tau * tau;
-    let c0 = tau * b[0][0] + tau2 * b[0][1];
-    let c1 = tau * b[1][0] + tau2 * b[1][1];
-    let c2 = tau * b[2][0] + tau2 * b[2][1];
+    let c0 = coefficient_b(b[0], tau);
+    let c1 = coefficient_b(b[1], tau);
+    let c2 = coefficient_b(b[2], tau);
     eta + eta * c0 + eta * eta * c1 + eta * eta * eta * c2
+}
+
+// A coefficient by its row of ..ETA_A.
+fn coefficient_a(a: [f64; 4], tau: f64, rep_inv: f64) -> f64
+    ensures { λ r. ⌜ r ≡ F.coefficient-a guarded (row a) tau «rep_inv» ⌝ }
+{
+    tau * (a[0] + a[1] * rep_inv) + tau * tau * (a[2] + a[3] * rep_inv)
 }
 
 pub fn packing_fraction_a(a: [[f64; 4]; 4], eta: f64, tau: f64, rep_ij: f64) -> f64
     ensures { λ r. ⌜ r ≡ F.packing-fraction-a guarded (table a) eta tau «rep_ij» ⌝ }
 {
-    let tau2 = tau * tau;
     let rep_inv = div(1.0, rep_ij);
-    let c0 = tau * (a[0][0] + a[0][1] * rep_inv) + tau2 * (a[0][2] + a[0][3] * rep_inv);
-    let c1 = tau * (a[1][0] + a[1][1] * rep_inv) + tau2 * (a[1][2] + a[1][3] * rep_inv);
-    let c2 = tau * (a[2][0] + a[2][1] * rep_inv) + tau2 * (a[2][2] + a[2][3] * rep_inv);
-    let c3 = tau * (a[3][0] + a[3][1] * rep_inv) + tau2 * (a[3][2] + a[3][3] * rep_inv);
+    let c0 = coefficient_a(a[0], tau, rep_inv);
+    let c1 = coefficient_a(a[1], tau, rep_inv);
+    let c2 = coefficient_a(a[2], tau, rep_inv);
+    let c3 = coefficient_a(a[3], tau, rep_inv);
     let eta3 = eta * eta * eta;
     eta + eta * c0 + eta * eta * c1 + eta3 * c2 + eta3 * eta * c3
 }
