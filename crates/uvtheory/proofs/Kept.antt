@@ -97,7 +97,7 @@ module _ (A B : Arithmetic) (R : A .Value → B .Value → Type 0) (K : Kept A B
       b3-reference = (Wca.residual-helmholtz-energy-contributions-b3 AB pars s .reference) .holds
 
       b3-attractive : R (Wca.residual-helmholtz-energy-contributions-b3 A left sl .attractive) (Wca.residual-helmholtz-energy-contributions-b3 B right sr .attractive)
-      unfolding B3A.helmholtz-energy-density B3A.energy B3A.residual-third-virial-coefficient B3A.delta-b3 B3A.b30-uv B3A.ten-volumes B3A.b3-term B3A.delta-b31u-of B3A.residual-virial-coefficient B3A.delta-b2-of B3A.sum-beta B3A.coefficient-rsap-of B3A.u-fraction-wca B3A.omega B3A.alpha WcaA.delta-a1u-of WcaA.delta-b12u WcaA.correlation-integral-of WcaA.correlation-quotient WcaA.coefficient WcaS.diameter-wca WcaS.diameter-of WcaS.rm-of WcaS.q-of WcaS.polynomial-q WcaS.coefficient-q mie-prefactor mean-field-of O.mean-cube O.weighted-pairs O.pair-mean O.cube-root
+      unfolding B3A.helmholtz-energy-density B3A.energy B3A.residual-third-virial-coefficient B3A.delta-b3 B3A.b30-uv B3A.c1-eta-a P.coefficient-b B3A.ten-volumes B3A.b3-term B3A.delta-b31u-of B3A.k1-of B3A.residual-virial-coefficient B3A.delta-b2-of B3A.sum-beta B3A.coefficient-rsap-of B3A.u-fraction-wca B3A.omega B3A.alpha WcaA.delta-a1u-of WcaA.delta-b12u WcaA.correlation-integral-of WcaA.correlation-quotient WcaA.coefficient WcaS.diameter-wca WcaS.diameter-of WcaS.rm-of WcaS.q-of WcaS.polynomial-q WcaS.coefficient-q mie-prefactor mean-field-of O.mean-cube O.weighted-pairs O.pair-mean O.cube-root
       b3-attractive = (Wca.residual-helmholtz-energy-contributions-b3 AB pars s .attractive) .holds
 
       -- ---- whatever the perturbation

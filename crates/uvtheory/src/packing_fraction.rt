@@ -24,7 +24,7 @@ pub fn packing_fraction(n: usize, partial_density: &[f64; 8], diameter: &[f64; 8
 }
 
 // A coefficient by its row of ..ETA_B.
-fn coefficient_b(b: [f64; 2], tau: f64) -> f64
+pub fn coefficient_b(b: [f64; 2], tau: f64) -> f64
     ensures { λ r. ⌜ r ≡ F.coefficient-b guarded (row b) tau ⌝ }
 {
     tau * b[0] + tau * tau * b[1]

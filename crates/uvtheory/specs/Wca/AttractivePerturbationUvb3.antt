@@ -9,6 +9,7 @@ use Rattle.uvtheory.specs.Tables.{C-WCA, C-B2-RSAP, K-LJ-B3, P-B3, L-B3,
 use Rattle.uvtheory.specs.Factorials.{factorial, whole}
 use Rattle.uvtheory.specs.Parameters.{UVTheoryPars, State, mie-prefactor, mean-field-constant}
 use Rattle.uvtheory.specs.OneFluid.{OneFluid, one-fluid-properties, virial-sum, mean-cube}
+use Rattle.uvtheory.specs.PackingFraction.{coefficient-b}
 use Rattle.uvtheory.specs.Wca.HardSphere.{rm-of, diameter-wca, dimensionless-diameter-q-wca}
 use Rattle.uvtheory.specs.Wca.AttractivePerturbation.{delta-b12u, delta-a1u-of}
 
@@ -66,13 +67,15 @@ module _ (A : Arithmetic) where
   unfoldable pub residual-virial-coefficient : UVTheoryPars Value → (ℕ → Value) → Value → Value
   residual-virial-coefficient p x t = virial-sum A (p .n) x (p .sigma-ij) 3 (delta-b2-ij p t)
 
+  -- k1 by the first row c of `C_WCA` and the reciprocals of nu and its square
+  unfoldable pub k1-of : (ℕ → Float) → Value → Value → Value → Value
+  k1-of c r1 r2 tau = r1 * constant (c 1) + r2 * constant (c 2) + constant (c 0) + (r1 * constant (c 4) + r2 * constant (c 5) + constant (c 3)) * tau
+
   -- by the prefactor c of nu and att
   unfoldable pub delta-b31u-of : Value → Value → Value → Value → Value → Value → Value
-  delta-b31u-of t-x weighted-sigma3-ij rm-x nu p d-x =
-      let tau = rm-x - d-x in
-      let c : ℕ → Value = λ i. constant (C-WCA 0 i) in
-      let k1 = recip A nu * c 1 + recip A (nu ^ 2) * c 2 + c 0 + (recip A nu * c 4 + recip A (nu ^ 2) * c 5 + c 3) * tau in
-      recip A t-x * constant N.four * p * constant N.PI * k1 * weighted-sigma3-ij ^ 2
+  delta-b31u-of t-x weighted-sigma3-ij rm-x nu c d-x =
+      let k1 = k1-of (C-WCA 0) (recip A nu) (recip A (nu ^ 2)) (rm-x - d-x) in
+      recip A t-x * constant N.four * c * constant N.PI * k1 * weighted-sigma3-ij ^ 2
 
   -- b31 to b34, for i from 0: by four entries of `K_LJ_B3` and one of each other table
   unfoldable pub b3-term : ℕ → Value → Value → Value
@@ -85,18 +88,16 @@ module _ (A : Arithmetic) where
   unfoldable pub ten-volumes : Value → Value
   ten-volumes d = (d ^ 3 * constant N.PI / constant N.six) ^ 2 * constant N.ten
 
+  -- by the first row a of `WCA_CONSTANTS_ETA_A_UVB3`. Its sums stand the other way round than in `packing_fraction_a_uvb3`.
+  unfoldable pub c1-eta-a : (ℕ → Float) → Value → Value → Value
+  c1-eta-a a tau rep-inv = tau * (rep-inv * constant (a 1) + constant (a 0)) + tau * tau * (rep-inv * constant (a 3) + constant (a 2))
+
   unfoldable pub b30-uv : Value → Value → Value → Value → Value
   b30-uv rm-x rep-x d-x q-x =
       let tau = - d-x + rm-x in
-      let tau2 = tau * tau in
-      let rep-inv = recip A rep-x in
-      let a : ℕ → Value = λ i. constant (WCA-CONSTANTS-ETA-A-UVB3 0 i) in
-      let b : ℕ → Value = λ i. constant (WCA-CONSTANTS-ETA-B-UVB3 0 i) in
-      let c1-eta-a = tau * (rep-inv * a 1 + a 0) + tau2 * (rep-inv * a 3 + a 2) in
-      let c1-eta-b = tau * b 0 + tau2 * b 1 in
       ten-volumes d-x
       - d-x ^ 3 * constant N.five / constant N.nine * constant N.PI ^ 2
-      * ((- q-x ^ 3 + rm-x ^ 3) * (c1-eta-a + one) - (- d-x ^ 3 + rm-x ^ 3) * (c1-eta-b + one))
+      * ((- q-x ^ 3 + rm-x ^ 3) * (c1-eta-a (WCA-CONSTANTS-ETA-A-UVB3 0) tau (recip A rep-x) + one) - (- d-x ^ 3 + rm-x ^ 3) * (coefficient-b A (WCA-CONSTANTS-ETA-B-UVB3 0) tau + one))
 
   unfoldable pub delta-b3 : Value → Value → Value → Value → Value → Value
   delta-b3 t-x rm-x rep-x d-x q-x =

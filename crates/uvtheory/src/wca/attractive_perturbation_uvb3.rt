@@ -4,6 +4,7 @@ use crate::one_fluid::OneFluid;
 use crate::one_fluid::mean_cube;
 use crate::one_fluid::one_fluid_properties;
 use crate::one_fluid::virial_sum;
+use crate::packing_fraction::coefficient_b;
 use crate::parameters::Combined;
 use crate::parameters::Mixture;
 use crate::parameters::State;
@@ -167,15 +168,18 @@ pub fn delta_b2(reduced_temperature: f64, rep: f64, q: f64, rm: f64) -> f64
         - beta * beta * coefficient_rsap(c[3], r1, r2, r3)
 }
 
+// k1 by the first row of C_WCA and the reciprocals of nu and its square.
+fn k1_of(c: [f64; 6], r1: f64, r2: f64, tau: f64) -> f64
+    ensures { λ r. ⌜ r ≡ F.k1-of guarded (row c) r1 r2 tau ⌝ }
+{
+    r1 * c[1] + r2 * c[2] + c[0] + (r1 * c[4] + r2 * c[5] + c[3]) * tau
+}
+
 // By the prefactor c of nu and att.
 fn delta_b31u(t_x: f64, weighted_sigma3_ij: f64, rm_x: f64, nu: f64, c: f64, d_x: f64) -> f64
     ensures { λ r. ⌜ r ≡ F.delta-b31u-of guarded «t_x» «weighted_sigma3_ij» «rm_x» nu c «d_x» ⌝ }
 {
-    let tau = rm_x - d_x;
-    let r1 = div(1.0, nu);
-    let r2 = div(1.0, nu * nu);
-    let k = C_WCA[0];
-    let k1 = r1 * k[1] + r2 * k[2] + k[0] + (r1 * k[4] + r2 * k[5] + k[3]) * tau;
+    let k1 = k1_of(C_WCA[0], div(1.0, nu), div(1.0, nu * nu), rm_x - d_x);
     div(1.0, t_x) * 4.0 * c * PI * k1 * (weighted_sigma3_ij * weighted_sigma3_ij)
 }
 
@@ -199,16 +203,19 @@ fn ten_volumes(d: f64) -> f64
     v * v * 10.0
 }
 
+// By the first row of WCA_CONSTANTS_ETA_A_UVB3. Its sums stand the other way round than in packing_fraction_a.
+fn c1_eta_a(a: [f64; 4], tau: f64, rep_inv: f64) -> f64
+    ensures { λ r. ⌜ r ≡ F.c1-eta-a guarded (row a) tau «rep_inv» ⌝ }
+{
+    tau * (rep_inv * a[1] + a[0]) + tau * tau * (rep_inv * a[3] + a[2])
+}
+
 fn b30_uv(rm_x: f64, rep_x: f64, d_x: f64, q_x: f64) -> f64
     ensures { λ r. ⌜ r ≡ F.b30-uv guarded «rm_x» «rep_x» «d_x» «q_x» ⌝ }
 {
     let tau = -d_x + rm_x;
-    let tau2 = tau * tau;
-    let rep_inv = div(1.0, rep_x);
-    let a = WCA_CONSTANTS_ETA_A_UVB3[0];
-    let b = WCA_CONSTANTS_ETA_B_UVB3[0];
-    let c1_eta_a = tau * (rep_inv * a[1] + a[0]) + tau2 * (rep_inv * a[3] + a[2]);
-    let c1_eta_b = tau * b[0] + tau2 * b[1];
+    let c1_eta_a = c1_eta_a(WCA_CONSTANTS_ETA_A_UVB3[0], tau, div(1.0, rep_x));
+    let c1_eta_b = coefficient_b(WCA_CONSTANTS_ETA_B_UVB3[0], tau);
     let d3 = d_x * d_x * d_x;
     let rm3 = rm_x * rm_x * rm_x;
     ten_volumes(d_x)

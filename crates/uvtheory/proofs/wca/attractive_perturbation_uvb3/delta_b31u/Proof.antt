@@ -7,7 +7,7 @@ use Rattle.uvtheory.proofs.wca.attractive_perturbation_uvb3.delta_b31u.
 
 returns : tie.Need-returns
 unfolding F.delta-b31u-of powerBy
-returns c = simp (c .div3 .ensures, c .before .before .div2 .ensures, c .before .before .before .div .ensures) refl
+returns c = simp (c .div3 .ensures, c .before .k1-of .ensures, c .before .before .div2 .ensures, c .before .before .before .div .ensures) refl
 
 pub delta-b31u-spec : {M : Type 1} → statement M
-delta-b31u-spec = tie.close (tie.spec (λ c κs. tt) (λ c κs. tt) (λ c. search needs) (λ c. search needs) (λ c. search needs) (λ c. search needs) (λ c. search needs) (λ c. search needs) (λ c. search needs) (λ c κs. tt) returns)
+delta-b31u-spec = tie.close (tie.spec (λ c. search needs) (λ c κs. tt) (λ c κs. tt) (λ c κs. tt) (λ c κs. tt) returns)
