@@ -11,7 +11,7 @@ use crate::wca::hard_sphere::LengthTables;
 use crate::wca::hard_sphere::tau;
 use elementary::basic::div;
 ghost use mathlib.Core.Path.{_≡_};
-ghost use Prim.Native.Nat.{_≤_};
+ghost use Prim.Native.Nat.{_≤_, _<_};
 ghost use Rattle.arithmetic.specs.Doubles.{guarded};
 ghost use Rattle.arithmetic.specs.Sums.{pairs};
 ghost use Rattle.uvtheory.specs.Tables.{table};
@@ -78,6 +78,18 @@ fn term_of(
     )
 }
 
+fn component_of(i: usize, x: &[f64; 8], rm: &[f64; 8], d: &[f64; 8], length: &[f64; 8]) -> Component
+    requires { ⌜ i < 8 ⌝ }
+    ensures { λ r. ⌜ r ≡ record { x = row (now (x .entry)) i; rm = row (now (rm .entry)) i; d = row (now (d .entry)) i; length = row (now (length .entry)) i } ⌝ }
+{
+    Component {
+        x: x[i],
+        rm: rm[i],
+        d: d[i],
+        length: length[i],
+    }
+}
+
 // The sum of the terms over all pairs.
 pub fn pair_sum(
     ta: [[f64; 4]; 4],
@@ -99,21 +111,9 @@ pub fn pair_sum(
     let mut sum = 0.0;
     let mut k = 0;
     while k < n * n {
-        let i = k / n;
-        let j = k % n;
-        let a = Component {
-            x: x[i],
-            rm: rm[i],
-            d: d[i],
-            length: length[i],
-        };
-        let b = Component {
-            x: x[j],
-            rm: rm[j],
-            d: d[j],
-            length: length[j],
-        };
-        sum = sum + term_of(ta, tb, a, b, q[k], sigma_ij[k], rep_ij[k], eta);
+        let i = component_of(k / n, x, rm, d, length);
+        let j = component_of(k % n, x, rm, d, length);
+        sum = sum + term_of(ta, tb, i, j, q[k], sigma_ij[k], rep_ij[k], eta);
         k += 1;
     }
     sum
