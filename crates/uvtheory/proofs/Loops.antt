@@ -59,6 +59,14 @@ pub record At (size i : ℕ) : Type 0 where
 pub at : (size i : ℕ) → size ≤ 64 → i < size → At size i
 at size i h l = record { below = l; fits = omega arith; next = omega arith }
 
+-- of the i-th of n components, and that fewer are left after it
+pub record InRow (n i : ℕ) : Type 0 where
+  pub place : At 8 i
+  pub less : n - (i + 1) < n - i
+
+pub in-row : (n i : ℕ) → n ≤ 8 → i < n → InRow n i
+in-row n i h l = record { place = at 8 i (lit≤ tt) (omega arith); less = omega arith }
+
 -- of the k-th pair of n components, of the two components, and of the pair the other way round; and that fewer pairs are left after it
 pub record Bounds (n k : ℕ) : Type 0 where
   pub some : 0 < n

@@ -189,10 +189,11 @@ fn b3_term(i: usize, t_x: f64, rep_x: f64) -> f64
     ensures { λ r. ⌜ r ≡ F.b3-term guarded i «t_x» «rep_x» ⌝ }
 {
     let k = K_LJ_B3;
+    let j = 4 * i;
     let r = rep_x - 12.0;
-    let e = (div(r, rep_x - 6.0) * M_B3[i] + 1.0) * k[4 * i + 3];
+    let e = (div(r, rep_x - 6.0) * M_B3[i] + 1.0) * k[j + 3];
     let s = div(r, rep_x - L_B3[i]) * P_B3[i] + 1.0;
-    div(1.0, powf(t_x + k[4 * i + 2], e)) * k[4 * i + 1] * s + k[4 * i]
+    div(1.0, powf(t_x + k[j + 2], e)) * k[j + 1] * s + k[j]
 }
 
 // Ten times the square of the volume of a sphere.

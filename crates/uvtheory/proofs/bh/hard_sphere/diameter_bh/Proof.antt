@@ -3,7 +3,6 @@ use Prim.Native.Nat.{ℕ, _≤_, _-_}
 use mathlib.Core.Path.{_≡_, refl}
 use mathlib.Core.List.{List}
 use native.Mathlib.Omega.{arith}
-use borrow.Author.Needs.{needs}
 use lib.ListN.{length, length-set}
 use lib.Ieee.{Float}
 use Rattle.arithmetic.specs.Doubles.{guarded}
@@ -11,7 +10,7 @@ use Rattle.uvtheory.specs.Literals as N
 use Rattle.uvtheory.specs.Rows.{row, Row}
 use Rattle.uvtheory.specs.Parameters as P
 use Rattle.uvtheory.specs.Bh.HardSphere as F
-use Rattle.uvtheory.proofs.Loops.{row-set}
+use Rattle.uvtheory.proofs.Loops.{row-set, InRow, in-row}
 use Rattle.uvtheory.proofs.bh.hard_sphere.diameter_bh.Statement.{statement}
 use Rattle.uvtheory.proofs.bh.hard_sphere.diameter_bh.Tie as tie
 
@@ -25,6 +24,10 @@ Inv-loop temperature n rep sigma epsilon-k a76 d₀ i₀ d i = (i ≤ n) × (len
 
 abbrev μ-loop : tie.MeasureT-loop
 μ-loop temperature n rep sigma epsilon-k a76 d₀ i₀ d i = n - i
+
+-- what the bounds of every access follow from
+inside : (c : tie.In-loop Inv-loop μ-loop) → InRow (c .before .before .before .before .before .before .args .m .n) (c .before .loop .i)
+inside c = in-row (c .before .before .before .before .before .before .args .m .n) (c .before .loop .i) (c .before .before .before .before .before .before .pre) (omega arith)
 
 loop-holds : tie.Need-loop-holds Inv-loop μ-loop
 loop-holds c = (omega arith, refl, λ i h. absurd (omega arith))
@@ -42,27 +45,4 @@ unfolding F.diameter-bh
 returns c = λ i h. c .before .loop .inv .2 i (omega arith)
 
 pub diameter-bh-spec : {M : Type 1} → statement M
-diameter-bh-spec =
-    tie.close
-    (tie.spec
-    Inv-loop
-    μ-loop
-    (λ c κs. tt)
-    loop-holds
-    (λ c. search needs)
-    (λ c. search needs)
-    bh-coefficients-requires
-    (λ c. search needs)
-    (λ c. search needs)
-    (λ c κs. tt)
-    (λ c. search needs)
-    (λ c. search needs)
-    (λ c. search needs)
-    (λ c. search needs)
-    (λ c κs. tt)
-    (λ c. search needs)
-    (λ c. search needs)
-    (λ c. search needs)
-    (λ c. search needs)
-    loop-again
-    returns)
+diameter-bh-spec = tie.close (tie.spec Inv-loop μ-loop (λ c κs. tt) loop-holds (λ c. inside c .place .fits) (λ c. inside c .place .below) bh-coefficients-requires (λ c. inside (c .before) .place .fits) (λ c. inside (c .before) .place .below) (λ c κs. tt) (λ c. inside (c .before .before) .place .fits) (λ c. inside (c .before .before) .place .below) (λ c. inside (c .before .before) .place .fits) (λ c. inside (c .before .before) .place .below) (λ c κs. tt) (λ c. inside (c .before .before .before) .place .fits) (λ c. inside (c .before .before .before) .place .below) (λ c. inside (c .before .before .before) .place .next) (λ c. inside (c .before .before .before) .less) loop-again returns)

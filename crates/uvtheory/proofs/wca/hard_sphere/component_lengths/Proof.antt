@@ -3,13 +3,12 @@ use Prim.Native.Nat.{ℕ, _≤_, _-_}
 use mathlib.Core.Path.{_≡_, refl}
 use mathlib.Core.List.{List}
 use native.Mathlib.Omega.{arith}
-use borrow.Author.Needs.{needs}
 use lib.ListN.{length, length-set}
 use lib.Ieee.{Float}
 use Rattle.arithmetic.specs.Doubles.{guarded}
 use Rattle.uvtheory.specs.Rows.{row, Row}
 use Rattle.uvtheory.specs.Wca.HardSphere as F
-use Rattle.uvtheory.proofs.Loops.{row-set}
+use Rattle.uvtheory.proofs.Loops.{row-set, InRow, in-row}
 use Rattle.uvtheory.proofs.wca.hard_sphere.component_lengths.Statement.{statement}
 use Rattle.uvtheory.proofs.wca.hard_sphere.component_lengths.Tie as tie
 
@@ -36,6 +35,10 @@ Inv-loop temperature n rep att sigma epsilon-k rms₀ ds₀ lengths₀ i₀ rms 
 abbrev μ-loop : tie.MeasureT-loop
 μ-loop temperature n rep att sigma epsilon-k rms₀ ds₀ lengths₀ i₀ rms ds lengths i = n - i
 
+-- what the bounds of every access follow from
+inside : (c : tie.In-loop Inv-loop μ-loop) → InRow (c .before .before .before .before .before .before .args .m .n) (c .before .loop .i)
+inside c = in-row (c .before .before .before .before .before .before .args .m .n) (c .before .loop .i) (c .before .before .before .before .before .before .pre) (omega arith)
+
 loop-holds : tie.Need-loop-holds Inv-loop μ-loop
 loop-holds c = (omega arith, refl, refl, refl, (λ i h. absurd (omega arith)), (λ i h. absurd (omega arith)), λ i h. absurd (omega arith))
 
@@ -59,4 +62,4 @@ unfolding F.diameter-wca F.dimensionless-length-scale
 returns c = let l = c .before .loop .inv in record { rm-are = λ i h. l .4 i (omega arith); d-are = λ i h. l .5 i (omega arith); length-are = λ i h. l .6 i (omega arith) }
 
 pub component-lengths-spec : {M : Type 1} → statement M
-component-lengths-spec = tie.close (tie.spec Inv-loop μ-loop loop-holds (λ c. search needs) (λ c. search needs) (λ c. search needs) (λ c. search needs) (λ c κs. tt) (λ c. search needs) (λ c. search needs) (λ c κs. tt) (λ c. search needs) (λ c. search needs) (λ c. search needs) (λ c. search needs) (λ c κs. tt) (λ c. search needs) (λ c. search needs) (λ c. search needs) (λ c. search needs) (λ c. search needs) (λ c. search needs) (λ c. search needs) (λ c. search needs) (λ c. search needs) (λ c. search needs) loop-again returns)
+component-lengths-spec = tie.close (tie.spec Inv-loop μ-loop loop-holds (λ c. inside c .place .fits) (λ c. inside c .place .below) (λ c. inside c .place .fits) (λ c. inside c .place .below) (λ c κs. tt) (λ c. inside (c .before) .place .fits) (λ c. inside (c .before) .place .below) (λ c κs. tt) (λ c. inside (c .before .before) .place .fits) (λ c. inside (c .before .before) .place .below) (λ c. inside (c .before .before) .place .fits) (λ c. inside (c .before .before) .place .below) (λ c κs. tt) (λ c. inside (c .before .before .before) .place .fits) (λ c. inside (c .before .before .before) .place .below) (λ c. inside (c .before .before .before) .place .fits) (λ c. inside (c .before .before .before) .place .below) (λ c. inside (c .before .before .before) .place .fits) (λ c. inside (c .before .before .before) .place .below) (λ c. inside (c .before .before .before) .place .fits) (λ c. inside (c .before .before .before) .place .below) (λ c. inside (c .before .before .before) .place .next) (λ c. inside (c .before .before .before) .less) loop-again returns)
