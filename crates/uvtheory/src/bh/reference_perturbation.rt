@@ -11,7 +11,7 @@ use crate::parameters::State;
 use crate::reference_energy::energy;
 use elementary::basic::div;
 ghost use mathlib.Core.Path.{_≡_};
-ghost use Prim.Native.Nat.{_≤_};
+ghost use Prim.Native.Nat.{_≤_, _<_};
 ghost use Rattle.arithmetic.specs.Doubles.{guarded};
 ghost use Rattle.arithmetic.specs.Sums.{pairs};
 ghost use Rattle.uvtheory.specs.Rows.{row, matrix, Row, parameters, state};
@@ -32,23 +32,31 @@ fn term(xi: f64, xj: f64, eta_a: f64, eta_b: f64, di: f64, dj: f64, sigma_ij: f6
         * (-(d_ij * d_ij * d_ij) + sigma_ij * sigma_ij * sigma_ij)
 }
 
-fn term_of(
-    xi: f64,
-    xj: f64,
-    di: f64,
-    dj: f64,
-    si: f64,
-    sj: f64,
-    sigma_ij: f64,
-    rep_ij: f64,
-    eta: f64,
-) -> f64
-    ensures { λ r. ⌜ r ≡ F.term-of guarded xi xj di dj si sj «sigma_ij» «rep_ij» eta ⌝ }
+// The values of a component: fraction, diameter and sigma.
+pub struct Component {
+    pub x: f64,
+    pub d: f64,
+    pub sigma: f64,
+}
+
+fn term_of(i: Component, j: Component, sigma_ij: f64, rep_ij: f64, eta: f64) -> f64
+    ensures { λ r. ⌜ r ≡ F.term-of guarded (i .x) (j .x) (i .d) (j .d) (i .sigma) (j .sigma) «sigma_ij» «rep_ij» eta ⌝ }
 {
-    let t = tau(di, si, dj, sj);
+    let t = tau(i.d, i.sigma, j.d, j.sigma);
     let eta_a = packing_fraction_a(BH_CONSTANTS_ETA_A, eta, t, rep_ij);
     let eta_b = packing_fraction_b(BH_CONSTANTS_ETA_B, eta, t);
-    term(xi, xj, eta_a, eta_b, di, dj, sigma_ij)
+    term(i.x, j.x, eta_a, eta_b, i.d, j.d, sigma_ij)
+}
+
+fn component_of(i: usize, x: &[f64; 8], d: &[f64; 8], sigma: &[f64; 8]) -> Component
+    requires { ⌜ i < 8 ⌝ }
+    ensures { λ r. ⌜ r ≡ record { x = row (now (x .entry)) i; d = row (now (d .entry)) i; sigma = row (now (sigma .entry)) i } ⌝ }
+{
+    Component {
+        x: x[i],
+        d: d[i],
+        sigma: sigma[i],
+    }
 }
 
 // The sum of the terms over all pairs.
@@ -67,20 +75,9 @@ pub fn pair_sum(
     let mut sum = 0.0;
     let mut k = 0;
     while k < n * n {
-        let i = k / n;
-        let j = k % n;
-        sum = sum
-            + term_of(
-                x[i],
-                x[j],
-                d[i],
-                d[j],
-                sigma[i],
-                sigma[j],
-                sigma_ij[k],
-                rep_ij[k],
-                eta,
-            );
+        let i = component_of(k / n, x, d, sigma);
+        let j = component_of(k % n, x, d, sigma);
+        sum = sum + term_of(i, j, sigma_ij[k], rep_ij[k], eta);
         k += 1;
     }
     sum

@@ -2,7 +2,7 @@ use Prim.Native.Nat.{_≤_, _-_}
 use mathlib.Core.Path.{_≡_, refl}
 use native.Mathlib.Omega.{arith}
 use borrow.Author.Needs.{needs}
-use Rattle.arithmetic.specs.Arithmetic.{sumBy, powerBy}
+use Rattle.arithmetic.specs.Arithmetic.{sumBy}
 use Rattle.arithmetic.specs.Doubles.{guarded}
 use Rattle.uvtheory.specs.Rows.{row}
 use Rattle.uvtheory.proofs.Loops.{sum-step}
@@ -20,7 +20,6 @@ unfolding sumBy
 loop-holds c = (omega arith, refl)
 
 loop-again : tie.Need-loop-again Inv-loop μ-loop
-unfolding powerBy
 loop-again c = (
   omega arith,
   rw (c .before .before .loop .inv .1, sum-step),

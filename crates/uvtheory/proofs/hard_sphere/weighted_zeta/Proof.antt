@@ -22,7 +22,7 @@ unfolding sumBy
 loop-holds c = (omega arith, refl, refl, refl, refl)
 
 loop-again : tie.Need-loop-again Inv-loop μ-loop
-unfolding powerBy F.weighted-zeta
+unfolding powerBy
 loop-again c = (
   omega arith,
   rw (c .before .before .before .loop .inv .1, sum-step),

@@ -24,7 +24,7 @@ unfolding sumBy
 loop-holds c = (omega arith, refl)
 
 loop-again : tie.Need-loop-again Inv-loop μ-loop
-unfolding powerBy F.pair-mean
+unfolding powerBy
 loop-again c = (
   omega arith,
   rw (c .before .before .before .before .loop .inv .1, sum-step, at-pair),

@@ -22,7 +22,7 @@ unfolding sumBy
 loop-holds c = (omega arith, refl)
 
 loop-again : tie.Need-loop-again Inv-loop μ-loop
-unfolding powerBy F.packing-fraction
+unfolding powerBy
 loop-again c = (
   omega arith,
   rw (c .before .before .before .loop .inv .1, sum-step, c .before .before .before .before .div .ensures),

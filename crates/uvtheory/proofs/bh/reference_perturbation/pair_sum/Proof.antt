@@ -1,7 +1,7 @@
 use Prim.Native.Nat.{_≤_, _-_, _*_, _/_, _%_}
 use mathlib.Core.Path.{_≡_, refl}
 use native.Mathlib.Omega.{arith}
-use Rattle.arithmetic.specs.Arithmetic.{sumBy, powerBy}
+use Rattle.arithmetic.specs.Arithmetic.{sumBy}
 use Rattle.arithmetic.specs.Doubles.{guarded}
 use Rattle.uvtheory.specs.Rows.{row, matrix}
 use Rattle.uvtheory.specs.Bh.ReferencePerturbation as F
@@ -24,14 +24,13 @@ unfolding sumBy
 loop-holds c = (omega arith, refl)
 
 loop-again : tie.Need-loop-again Inv-loop μ-loop
-unfolding powerBy
 loop-again c = (
   omega arith,
-  rw (c .before .before .before .before .before .before .before .before .before .before .loop .inv .1, sum-step, c .term-of .ensures, at-pair),
+  rw (c .before .before .before .before .before .before .loop .inv .1, sum-step, c .term-of .ensures, c .before .before .before .component-of2 .ensures, c .before .before .before .before .component-of .ensures, at-pair),
 )
 
 returns : tie.Need-returns Inv-loop μ-loop
 returns c = let e : c .before .loop .k ≡ c .before .before .args .n * c .before .before .args .n = omega arith in rw e at (c .before .loop .inv .1)
 
 pub pair-sum-spec : {M : Type 1} → statement M
-pair-sum-spec = tie.close (tie.spec Inv-loop μ-loop loop-holds (λ c. square-fits (c .before .args .n) (c .before .pre)) (λ c. inside c .some) (λ c. inside c .some) (λ c. inside c .row .fits) (λ c. inside c .row .below) (λ c. inside (c .before) .column .fits) (λ c. inside (c .before) .column .below) (λ c. inside (c .before .before) .row .fits) (λ c. inside (c .before .before) .row .below) (λ c. inside (c .before .before .before) .column .fits) (λ c. inside (c .before .before .before) .column .below) (λ c. inside (c .before .before .before .before) .row .fits) (λ c. inside (c .before .before .before .before) .row .below) (λ c. inside (c .before .before .before .before .before) .column .fits) (λ c. inside (c .before .before .before .before .before) .column .below) (λ c. inside (c .before .before .before .before .before .before) .pair .fits) (λ c. inside (c .before .before .before .before .before .before) .pair .below) (λ c. inside (c .before .before .before .before .before .before .before) .pair .fits) (λ c. inside (c .before .before .before .before .before .before .before) .pair .below) (λ c κs. tt) (λ c. inside (c .before .before .before .before .before .before .before .before .before) .pair .next) (λ c. inside (c .before .before .before .before .before .before .before .before .before) .less) loop-again returns)
+pair-sum-spec = tie.close (tie.spec Inv-loop μ-loop loop-holds (λ c. square-fits (c .before .args .n) (c .before .pre)) (λ c. inside c .some) (λ c κs. inside c .row .below) (λ c. inside (c .before) .some) (λ c κs. inside (c .before) .column .below) (λ c. inside (c .before .before) .pair .fits) (λ c. inside (c .before .before) .pair .below) (λ c. inside (c .before .before .before) .pair .fits) (λ c. inside (c .before .before .before) .pair .below) (λ c κs. tt) (λ c. inside (c .before .before .before .before .before) .pair .next) (λ c. inside (c .before .before .before .before .before) .less) loop-again returns)

@@ -1,7 +1,7 @@
 use Prim.Native.Nat.{_≤_, _-_, _*_, _/_, _%_}
 use mathlib.Core.Path.{_≡_, refl}
 use native.Mathlib.Omega.{arith}
-use Rattle.arithmetic.specs.Arithmetic.{sumBy, powerBy}
+use Rattle.arithmetic.specs.Arithmetic.{sumBy}
 use Rattle.arithmetic.specs.Doubles.{guarded}
 use Rattle.uvtheory.specs.Tables.{table}
 use Rattle.uvtheory.specs.Rows.{row, matrix}
@@ -25,7 +25,6 @@ unfolding sumBy
 loop-holds c = (omega arith, refl)
 
 loop-again : tie.Need-loop-again Inv-loop μ-loop
-unfolding powerBy
 loop-again c = (
   omega arith,
   rw (c .before .before .before .before .before .before .before .loop .inv .1, sum-step, c .term-of .ensures, c .before .before .before .before .component-of2 .ensures, c .before .before .before .before .before .component-of .ensures, at-pair),
