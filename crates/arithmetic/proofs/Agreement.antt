@@ -31,7 +31,7 @@ of-neg nan = refl
 of-neg (inf s) = refl
 of-neg (fin s m e) = refl
 
-of-add : (x y : Float) → checked (Ieee.add binary64 x y) ≡ checked (Ieee.add binary64 (checked x) (checked y))
+pub of-add : (x y : Float) → checked (Ieee.add binary64 x y) ≡ checked (Ieee.add binary64 (checked x) (checked y))
 unfolding Ieee.add
 of-add nan y = refl
 of-add (inf s) nan = refl

@@ -69,7 +69,7 @@ one-of-value (fin true m e) (fin false n d) f g p q z h i = absurd (omega (arith
 one-of-value (fin false m e) (fin false n d) f g p q z h i = unique false m e n d f g (omega (arith, h, i))
 
 -- ---- what is rounded is a double, and a double above zero is rounded to itself
-zero-fits : (z : Bool) → T (fits binary64 (fin z 0 (pos 0)))
+pub zero-fits : (z : Bool) → T (fits binary64 (fin z 0 (pos 0)))
 unfolding fits
 zero-fits z = tt
 

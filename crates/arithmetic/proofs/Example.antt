@@ -29,7 +29,7 @@ module _ (A : Arithmetic) where
   abbrev pair : Value → Value → Value
   pair x y = both-ways x y + both-ways (x + constant one) y / both-ways x (y * constant two)
 
-  abbrev mixture : ℕ → (ℕ → Value) → (ℕ → Value) → Value
+  abbrev pub mixture : ℕ → (ℕ → Value) → (ℕ → Value) → Value
   mixture n w x = dot A n w x / sum n w + pairs A n (λ i j. w i * w j * pair (x i) (x j))
 
 -- for every n and all inputs, those that are not finite too

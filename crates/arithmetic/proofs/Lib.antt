@@ -8,6 +8,7 @@ pub mod Squares
 pub mod Significand
 pub mod RoundedRoot
 pub mod Nearest
+pub mod Enclosure
 pub mod Cases
 pub mod Tests
 pub mod Exact

@@ -42,7 +42,7 @@ pub record Nearest (x r : Float) : Type 0 where
   pub above : (y : Float) → T (fits binary64 y) → T (finite y) → value r ≺ value y → AboveRoot (middle (value y) (value r)) (value x)
 
 -- ---- below what is below the root, and above what is above it
-square-mono : {c d : Fraction} → null ≼ c → c ≼ d → c ⊗ c ≼ d ⊗ d
+pub square-mono : {c d : Fraction} → null ≼ c → c ≼ d → c ⊗ c ≼ d ⊗ d
 square-mono {c} {d} z h = ≼-trans (⊗-mono z h) (≼-trans (⊗-swap c d) (⊗-mono (≼-trans z h) h))
 
 below-root : {c d x z : Fraction} → c ≼ d → x ≼ z → BelowRoot d x → BelowRoot c z

@@ -227,13 +227,13 @@ unfolding nextDown ofBits toBits
 past-minus-inf binary32 = refl
 past-minus-inf binary64 = refl
 
-not-le-inf : (u : Float) → T (finite u) → T (not (le u (inf true)))
+pub not-le-inf : (u : Float) → T (finite u) → T (not (le u (inf true)))
 unfolding le
 not-le-inf nan h = absurd h
 not-le-inf (inf s) h = absurd h
 not-le-inf (fin s m e) h = tt
 
-not-inf-le : (u : Float) → T (finite u) → T (not (le (inf false) u))
+pub not-inf-le : (u : Float) → T (finite u) → T (not (le (inf false) u))
 unfolding le
 not-inf-le nan h = absurd h
 not-inf-le (inf s) h = absurd h

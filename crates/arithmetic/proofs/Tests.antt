@@ -8,7 +8,7 @@ use lib.IntN.{pos}
 use lib.Ieee.{Float, nan, inf, fin, binary64, ofBits, lt, le, eq, sub, div}
 use lib.Ieee.Scale.{finite}
 use lib.Ieee.Bits.{is-true}
-use Rattle.arithmetic.specs.Fraction.{_≼_, _≺?_, _⊕_, opp}
+use Rattle.arithmetic.specs.Fraction.{_≼_, _≺_, _≺?_, _⊕_, opp}
 use Rattle.arithmetic.specs.Value.{value}
 use Rattle.arithmetic.specs.Basic.{below, above, passes}
 use Rattle.arithmetic.specs.Doubles.{whereFinite}
@@ -23,6 +23,15 @@ iff true false f g = absurd (f tt)
 iff false true f g = absurd (g tt)
 iff false false f g = refl
 
+-- what a test says, whose negation is tested
+pub failed-test : (b : Bool) → not b ≡ true → b ≡ false
+failed-test true h = absurd (false≢true h)
+failed-test false h = refl
+
+pub passed-test : (b : Bool) → not b ≡ false → b ≡ true
+passed-test true h = refl
+passed-test false h = absurd (false≢true (sym h))
+
 module _ (x y : Float) (p : T (finite x)) (q : T (finite y)) where
   ≺?-is : (value x ≺? value y) ≡ lt x y
   ≺?-is = iff (value x ≺? value y) (lt x y) (λ t. ≺→lt x y p q (≺?→≺ (value x) (value y) t)) (λ t. ≺→≺? (value x) (value y) (lt→≺ x y p q t))
@@ -35,6 +44,10 @@ module _ (x y : Float) (p : T (finite x)) (q : T (finite y)) where
   -- where x is not below y
   pub not-below : lt x y ≡ false → value y ≼ value x
   not-below h = elim (≼-or-≻ (value y) (value x)) [ inl k ↦ k | inr k ↦ absurd (false≢true (sym h ∙ is-true (lt x y) (≺→lt x y p q k))) ]
+
+  -- where x is not at most y
+  pub not-at-least : le x y ≡ false → value y ≺ value x
+  not-at-least h = elim (≼-or-≻ (value x) (value y)) [ inl k ↦ absurd (false≢true (sym h ∙ is-true (le x y) (≼→le x y p q k))) | inr k ↦ k ]
 
 pub below-is : (x c : Float) → T (finite x) → T (finite c) → passes (below c) (value x) ≡ lt x c
 below-is x c p q = ≺?-is x c p q

@@ -1,9 +1,9 @@
--- The number that a float is.
+-- The number that a float is, and numbers between floats.
 use Prim.Native.Nat.{ℕ, _*_, _<_}
 use mathlib.Core.Bool.{Bool, true, false}
 use lib.Ieee.{Float, nan, inf, fin, up, down}
 use lib.Ieee.Fits.{down-pos}
-use Rattle.arithmetic.specs.Fraction.{Fraction, null}
+use Rattle.arithmetic.specs.Fraction.{Fraction, null, _≼_}
 
 -- ±a / c
 abbrev pub signed : Bool → (a c : ℕ) → 0 < c → Fraction
@@ -20,3 +20,8 @@ abbrev pub sign : Float → Bool
 sign nan = false
 sign (inf s) = s
 sign (fin s m e) = s
+
+-- the number q lies between lo and hi, both included
+pub record Within (lo hi : Float) (q : Fraction) : Type 0 where
+  pub low : value lo ≼ q
+  pub high : q ≼ value hi

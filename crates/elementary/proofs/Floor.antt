@@ -47,6 +47,18 @@ pub normal-word : (k : ℤ) → Normal k → SFits w64 k
 normal-word (pos n) h = record { sfits = omega (arith, leb→le n 1023 (h .1)) }
 normal-word (negsuc n) h = record { sfits = omega (arith, leb→le n 1021 (h .0)) }
 
+-- the next whole number
+pub next-float : (k : ℤ) → Normal k → T (inFloat binary64 (sucℤ k))
+unfolding inFloat
+next-float (pos n) h = le→leb (suc n) (2 ^ 53) (omega (arith, leb→le n 1023 (h .1)))
+next-float (negsuc zero) h = tt
+next-float (negsuc (suc n)) h = lt→ltb n (2 ^ 53) (omega (arith, leb→le (suc n) 1021 (h .0)))
+
+pub next-word : (k : ℤ) → Normal k → SFits w64 (sucℤ k)
+next-word (pos n) h = record { sfits = omega (arith, leb→le n 1023 (h .1)) }
+next-word (negsuc zero) h = record { sfits = omega arith }
+next-word (negsuc (suc n)) h = record { sfits = omega (arith, leb→le (suc n) 1021 (h .0)) }
+
 -- ---- the whole part: cut towards zero
 pub record WholePart (x : Float) (t : ℤ) : Type 0 where
   pub low : whole (predℤ t) ≼ value x

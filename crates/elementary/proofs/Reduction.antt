@@ -48,18 +48,13 @@ module _ (x : Float) (sig exp c : ℕ) (e : ℤ) (v : HasValue x false (sig * 2 
       high : X ≺ binade (sucℤ e)
       high = record { cross = upper (up e) (down e) (up (sucℤ e)) (down (sucℤ e)) (2 ^ exp) (2 ^ c) (2 ^ 1126) (pow-pos exp) (down-pos e) (down-pos (sucℤ e)) (double e) E h }
 
-  -- m = x × 2^-e
-  pub reduced : (m : Float) → T (fits binary64 m) → 0 < sig → HasValue m false sig (2 ^ c) → scaled x (negℤ e) ≡ m
+  -- m = x × 2^-e, exactly
+  pub exactly : (m : Float) → HasValue m false sig (2 ^ c) → (value m ≼ value x ⊗ value (fin false 1 (negℤ e))) × (value x ⊗ value (fin false 1 (negℤ e)) ≼ value m)
   unfolding X
-  reduced m f s w =
-      let p = has-value-finite x false (sig * 2 ^ exp) (2 ^ 1126) v in
+  exactly m w =
       let a = value-is x false (sig * 2 ^ exp) (2 ^ 1126) (pow-pos 1126) v in
       let b = value-is m false sig (2 ^ c) (pow-pos c) w in
-      mul-is binary64 x (fin false 1 (negℤ e)) p tt
-      ∙ rounded-exact _ (value x ⊗ Y) m f (has-value-finite m false sig (2 ^ c) w)
-      (≺-≼-trans (record { cross = positive }) (b .1))
-      (≼-trans (b .0) (≼-trans (record { cross = le-of-eq is }) (times-mono (a .1))))
-      (≼-trans (times-mono (a .0)) (≼-trans (record { cross = le-of-eq (sym is) }) (b .1)))
+      (≼-trans (b .0) (≼-trans (record { cross = le-of-eq is }) (times-mono (a .1))), ≼-trans (times-mono (a .0)) (≼-trans (record { cross = le-of-eq (sym is) }) (b .1)))
     where
       Y : Fraction
       Y = value (fin false 1 (negℤ e))
@@ -67,14 +62,21 @@ module _ (x : Float) (sig exp c : ℕ) (e : ℤ) (v : HasValue x false (sig * 2 
       times-mono : {y z : Fraction} → y ≼ z → y ⊗ Y ≼ z ⊗ Y
       times-mono {y} {z} h = ≼-trans (⊗-swap y Y) (≼-trans (⊗-mono (omega arith) h) (⊗-swap Y z))
 
-      positive : 0 * 2 ^ c + 0 * 1 < sig * 1 + 0 * 2 ^ c
-      positive = omega arith
-
       same : (u d p q t : ℕ) → u * t ≡ p * q * d → sig * (t * u) + (sig * p * 0 + 0 * (1 * d)) * q ≡ (sig * p * (1 * d) + 0 * 0) * q + 0 * (t * u)
       same u d p q t h = omega (arith, ap (λ (z : ℕ). sig * z) h)
 
       is : sig * (2 ^ 1126 * down (negℤ e)) + (sig * 2 ^ exp * 0 + 0 * (1 * up (negℤ e))) * 2 ^ c ≡ (sig * 2 ^ exp * (1 * up (negℤ e)) + 0 * 0) * 2 ^ c + 0 * (2 ^ 1126 * down (negℤ e))
       is = rw (up-neg e, down-neg e) (same (up e) (down e) (2 ^ exp) (2 ^ c) (2 ^ 1126) E)
+
+  pub reduced : (m : Float) → T (fits binary64 m) → 0 < sig → HasValue m false sig (2 ^ c) → scaled x (negℤ e) ≡ m
+  reduced m f s w =
+      let p = has-value-finite x false (sig * 2 ^ exp) (2 ^ 1126) v in
+      let b = value-is m false sig (2 ^ c) (pow-pos c) w in
+      mul-is binary64 x (fin false 1 (negℤ e)) p tt
+      ∙ rounded-exact _ (value x ⊗ value (fin false 1 (negℤ e))) m f (has-value-finite m false sig (2 ^ c) w) (≺-≼-trans (record { cross = positive }) (b .1)) (exactly m w .0) (exactly m w .1)
+    where
+      positive : 0 * 2 ^ c + 0 * 1 < sig * 1 + 0 * 2 ^ c
+      positive = omega arith
 
 -- ---- 2^(a - l)
 sub-power : (a l : ℕ) → up (subℕ a l) * 2 ^ l ≡ 2 ^ a * down (subℕ a l)
@@ -112,8 +114,12 @@ mantissa-value sig g c lo hi h e =
 pub split-at : (b sig exp g c k : ℕ) → 2 ^ 52 ≤ sig → sig < 2 ^ 53 → g < 2046 → c + g ≡ 1074 → c + k ≡ 1126 → 3 * 2 ^ c ≤ 4 * sig → 2 * sig < 3 * 2 ^ c
     → HasValue (ofBits binary64 b) false (sig * 2 ^ exp) (2 ^ 1126)
     → (exponentOf (value (ofBits binary64 b)) ≡ some (subℕ exp k)) × (scaled (ofBits binary64 b) (negℤ (subℕ exp k)) ≡ ofBits binary64 (sig + g * 2 ^ 52))
+    × (value (ofBits binary64 (sig + g * 2 ^ 52)) ≼ value (ofBits binary64 b) ⊗ value (fin false 1 (negℤ (subℕ exp k)))) × (value (ofBits binary64 b) ⊗ value (fin false 1 (negℤ (subℕ exp k))) ≼ value (ofBits binary64 (sig + g * 2 ^ 52)))
 split-at b sig exp g c k lo hi small G K l h v =
     let x = ofBits binary64 b in
     let e = subℕ exp k in
     let E = exponent-power exp k c K in
-    (in-binade x sig exp c e v E l h, reduced x sig exp c e v E (ofBits binary64 (sig + g * 2 ^ 52)) (ofBits-fits binary64 (sig + g * 2 ^ 52)) (omega arith) (mantissa-value sig g c lo hi small G))
+    let w = mantissa-value sig g c lo hi small G in
+    let m = ofBits binary64 (sig + g * 2 ^ 52) in
+    let is = exactly x sig exp c e v E m w in
+    (in-binade x sig exp c e v E l h, reduced x sig exp c e v E m (ofBits-fits binary64 (sig + g * 2 ^ 52)) (omega arith) w, is .0, is .1)

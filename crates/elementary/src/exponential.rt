@@ -17,14 +17,14 @@ ghost use Rattle.arithmetic.specs.Recipes as R;
 ghost use Rattle.arithmetic.specs.Doubles.{plain, guarded};
 
 // log2 e, and ln 2 in two parts.
-const E: f64 = 1.4426950408889634;
+pub const E: f64 = 1.4426950408889634;
 
-const H: f64 = 6.93147180369123816490e-01;
+pub const H: f64 = 6.93147180369123816490e-01;
 
-const G: f64 = 1.90821492927058770002e-10;
+pub const G: f64 = 1.90821492927058770002e-10;
 
 // 1/j!, j 0 to 13.
-const FACTORIALS: [f64; 14] = [
+pub const FACTORIALS: [f64; 14] = [
     1.0,
     1.0,
     0.5,
@@ -42,7 +42,7 @@ const FACTORIALS: [f64; 14] = [
 ];
 
 // The greatest whole number that is not above x, for an x whose floor is the exponent of a normal double.
-fn floor(x: f64) -> i64
+pub fn floor(x: f64) -> i64
     requires { ⌜ T (finite x) × (whole (negsuc 1021) ≼ value x) × (value x ≺ whole (pos 1024)) ⌝ }
     ensures { λ k. ⌜ k ≡ floorOf (value x) ⌝ }
 {
@@ -51,7 +51,7 @@ fn floor(x: f64) -> i64
 }
 
 // 2^k, for the exponent of a normal double.
-fn power_of_two(k: i64) -> f64
+pub fn power_of_two(k: i64) -> f64
     requires { ⌜ T (leZ (negsuc 1021) k) × T (leZ k (pos 1023)) ⌝ }
     ensures { λ r. ⌜ r ≡ fin false 1 k ⌝ }
 {

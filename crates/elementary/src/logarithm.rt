@@ -4,21 +4,23 @@ use crate::basic::horner;
 use crate::basic::is_finite;
 use crate::parts::parts;
 ghost use mathlib.Core.Path.{_≡_};
+ghost use mathlib.Core.Bool.{false};
 ghost use mathlib.Core.Option.{some};
 ghost use Prim.Native.Nat.{_<_};
 ghost use lib.Dec.{T};
 ghost use lib.IntN.{negℤ};
-ghost use lib.Ieee.{binary64, ofBits, inFloat};
+ghost use lib.Ieee.{fin, binary64, ofBits, inFloat};
+ghost use Rattle.arithmetic.specs.Fraction.{_≼_, _⊗_};
 ghost use Rattle.arithmetic.specs.Value.{value};
 ghost use Rattle.arithmetic.specs.Cases.{exponentOf};
 ghost use Rattle.arithmetic.specs.Recipes as R;
 ghost use Rattle.arithmetic.specs.Doubles.{plain, guarded, scaled};
 
 // ln 2.
-const L: f64 = 0.6931471805599453;
+pub const L: f64 = 0.6931471805599453;
 
 // 1/(2k+1), k 0 to 12.
-const ODDS: [f64; 13] = [
+pub const ODDS: [f64; 13] = [
     1.0,
     0.3333333333333333,
     0.2,
@@ -48,10 +50,11 @@ pub struct Reduced {
     pub e: i64,
 }
 
-// The m and the e of a positive finite double, by its pattern.
-fn split(b: u64) -> Reduced
+// The m and the e of a positive finite double, by its pattern. Nothing is rounded.
+pub fn split(b: u64) -> Reduced
     requires { ⌜ (0 < b) × (b < 0x7ff0_0000_0000_0000) ⌝ }
-    ensures { λ r. ⌜ (exponentOf (value (ofBits binary64 b)) ≡ some (r .e)) × (scaled (ofBits binary64 b) (negℤ (r .e)) ≡ r .m) × T (inFloat binary64 (r .e)) ⌝ }
+    ensures { λ r. ⌜ (exponentOf (value (ofBits binary64 b)) ≡ some (r .e)) × (scaled (ofBits binary64 b) (negℤ (r .e)) ≡ r .m) × T (inFloat binary64 (r .e))
+        × (value (r .m) ≼ value (ofBits binary64 b) ⊗ value (fin false 1 (negℤ (r .e)))) × (value (ofBits binary64 b) ⊗ value (fin false 1 (negℤ (r .e))) ≼ value (r .m)) ⌝ }
 {
     let p = parts(b);
     if p.sig < 0x18_0000_0000_0000 {

@@ -1,15 +1,17 @@
 -- The laws are in proofs/Reduction.antt; the rest says that the exponent comes back from the i64 as it was.
 use mathlib.Core.Path.{_≡_, refl, sym, ap, _∙_, subst}
+use mathlib.Core.Bool.{false}
 use mathlib.Core.Option.{some}
 use Prim.Native.Nat.{ℕ, suc, _+_, _*_, _^_, _<_}
 use native.Mathlib.Omega.{arith}
 use borrow.Author.Needs.{needs}
 use lib.Dec.{T}
 use lib.IntN.{ℤ, pos, negℤ, subℕ, _-ℤ_}
-use lib.Ieee.{Float, binary64, ofBits, inFloat}
+use lib.Ieee.{Float, fin, binary64, ofBits, inFloat}
 use mir.Syntax.{w64}
 use mir.Val.{SFits, toZ, ofZ}
 use mir.ValLaws.{toZ-ofZ}
+use Rattle.arithmetic.specs.Fraction.{_≼_, _⊗_}
 use Rattle.arithmetic.specs.Value.{value}
 use Rattle.arithmetic.specs.Cases.{exponentOf}
 use Rattle.arithmetic.specs.Doubles.{scaled}
@@ -48,6 +50,7 @@ sub-t12 c = let p = c .before .before .before .before .parts in fits (p .result 
 -- what is left to show of an m and an e
 Split : (b : ℕ) (m : Float) (e : ℤ) → Type 0
 Split b m e = (exponentOf (value (ofBits binary64 b)) ≡ some e) × (scaled (ofBits binary64 b) (negℤ e) ≡ m) × T (inFloat binary64 e)
+    × (value m ≼ value (ofBits binary64 b) ⊗ value (fin false 1 (negℤ e))) × (value (ofBits binary64 b) ⊗ value (fin false 1 (negℤ e)) ≼ value m)
 
 returns : tie.Need-returns
 unfolding Split
@@ -58,7 +61,7 @@ returns c =
     let exp = p .result .exp in
     let b = c .before .before .before .before .before .args .b in
     let r = split-at b sig exp 1022 52 1074 (e .0 .0) (e .0 .1) (omega arith) refl refl (omega arith) (omega arith) (e .1) in
-    subst (λ (z : ℤ). Split b (ofBits binary64 (sig + 1022 * 2 ^ 52)) z) (sym (back exp 1073 (e .0 .2) (omega arith))) (r .0, r .1, float exp 1073 (e .0 .2) (omega arith))
+    subst (λ (z : ℤ). Split b (ofBits binary64 (sig + 1022 * 2 ^ 52)) z) (sym (back exp 1073 (e .0 .2) (omega arith))) (r .0, r .1, float exp 1073 (e .0 .2) (omega arith), r .2, r .3)
 
 returns-2 : tie.Need-returns-2
 unfolding Split
@@ -69,7 +72,7 @@ returns-2 c =
     let exp = p .result .exp in
     let b = c .before .before .before .before .before .args .b in
     let r = split-at b sig exp 1021 53 1073 (e .0 .0) (e .0 .1) (omega arith) refl refl (omega arith) (omega arith) (e .1) in
-    subst (λ (z : ℤ). Split b (ofBits binary64 (sig + 1021 * 2 ^ 52)) z) (sym (back exp 1072 (e .0 .2) (omega arith))) (r .0, r .1, float exp 1072 (e .0 .2) (omega arith))
+    subst (λ (z : ℤ). Split b (ofBits binary64 (sig + 1021 * 2 ^ 52)) z) (sym (back exp 1072 (e .0 .2) (omega arith))) (r .0, r .1, float exp 1072 (e .0 .2) (omega arith), r .2, r .3)
 
 pub split-spec : {M : Type 1} → statement M
 split-spec =

@@ -1,0 +1,43 @@
+-- A case by a limit, as a program tests it: both ends compared with the limit.
+use mathlib.Core.Path.{_≡_, refl, sym, subst}
+use mathlib.Core.Bool.{Bool, true, false, cond}
+use lib.Dec.{T}
+use lib.Ieee.{Float, lt}
+use lib.Ieee.Scale.{finite}
+use Rattle.arithmetic.specs.Value.{value}
+use Rattle.arithmetic.specs.Basic.{Limit, below, above, passes}
+use Rattle.arithmetic.proofs.Tests.{below-is, above-is}
+use Rattle.range.specs.declared.basic.Range.{Range}
+use Rattle.range.specs.Rules.{ok, failed, agreed, test}
+use Rattle.range.specs.Enclosed.{Ok}
+use Rattle.range.proofs.Corners.{lower-finite, upper-finite}
+
+pub has-ends : (r : Range) → ok r ≡ true → Ok r
+has-ends r k = subst T (sym k) tt
+
+module _ (r : Range) (k : ok r ≡ true) where
+  module _ (t : Float) (f : T (finite t)) (x y : Range) where
+    pub below-test : test (below t) r x y ≡ agreed (lt (r .lower) t) (lt (r .upper) t) x y
+    unfolding test
+    below-test = rw (k, below-is (r .lower) t (lower-finite r (has-ends r k)) f, below-is (r .upper) t (upper-finite r (has-ends r k)) f)
+
+    pub above-test : test (above t) r x y ≡ agreed (lt t (r .lower)) (lt t (r .upper)) x y
+    unfolding test
+    above-test = rw (k, above-is (r .lower) t (lower-finite r (has-ends r k)) f, above-is (r .upper) t (upper-finite r (has-ends r k)) f)
+
+-- a failed range has no case
+pub failed-case : (l : Limit) (r x y : Range) → ok r ≡ false → test l r x y ≡ failed
+unfolding test
+failed-case l r x y k = rw k
+
+-- what is worked where the test fails may be anything elsewhere
+pub test-else : (l : Limit) (r x y z : Range) → (ok r ≡ true → passes l (value (r .lower)) ≡ false → y ≡ z) → test l r x y ≡ test l r x z
+unfolding test
+test-else l r x y z h = go (ok r) (passes l (value (r .lower))) (passes l (value (r .upper))) refl refl
+  where
+    go : (a i j : Bool) → ok r ≡ a → passes l (value (r .lower)) ≡ i → cond a (agreed i j x y) failed ≡ cond a (agreed i j x z) failed
+    go false i j e f = refl
+    go true true true e f = refl
+    go true true false e f = refl
+    go true false true e f = refl
+    go true false false e f = h e f

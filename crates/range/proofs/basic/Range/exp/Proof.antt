@@ -1,0 +1,36 @@
+use mathlib.Core.Path.{_≡_, sym, _∙_}
+use mathlib.Core.Bool.{true, false}
+use lib.Dec.{T}
+use lib.Ieee.{ofBits, neg}
+use Rattle.arithmetic.specs.Value.{value}
+use Rattle.arithmetic.specs.Basic.{below, above, passes}
+use Rattle.arithmetic.specs.Constants as K
+use Rattle.arithmetic.specs.Recipes as R
+use Rattle.arithmetic.proofs.Tests.{below-is, above-is}
+use Rattle.elementary.proofs.Place.{constants}
+use Rattle.range.specs.Rules.{failed, point, test, rules}
+use Rattle.range.proofs.Corners.{lower-finite}
+use Rattle.range.proofs.Testing.{has-ends, test-else}
+use Rattle.range.proofs.basic.Range.exp.Statement.{statement}
+use Rattle.range.proofs.basic.Range.exp.Tie as tie
+
+if-above-requires : tie.Need-if-above-requires
+unfolding ofBits
+if-above-requires c κs = tt
+
+if-below-requires : tie.Need-if-below-requires
+unfolding ofBits neg
+if-below-requires c κs = tt
+
+returns : tie.Need-returns
+unfolding R.exp
+returns c =
+    let b = c .before .before .before in
+    let v = b .before .before .args .self in
+    rw (c .if-below .ensures, c .before .before .if-above .ensures, c .before .point .ensures, b .before .failed .ensures)
+    (test-else (below K.minusSevenHundred) v (point K.zeroD) _ _
+    (λ k p. test-else (above K.sevenHundred) v failed _ _
+    (λ k' q. b .exp-between .ensures k (sym (below-is (v .lower) K.minusSevenHundred (lower-finite v (has-ends v k)) (constants .3)) ∙ p) (sym (above-is (v .lower) K.sevenHundred (lower-finite v (has-ends v k)) (constants .2)) ∙ q))))
+
+pub exp-spec : {M : Type 1} → statement M
+exp-spec = tie.close (tie.spec (λ c κs. tt) (λ c κs. tt) if-above-requires (λ c κs. tt) if-below-requires returns)

@@ -1,0 +1,278 @@
+// The struct of two ends, and the rules of negation, sum, difference, product, quotient, power, root and the case at a threshold.
+use elementary::basic::is_finite;
+use elementary::next::next_down;
+use elementary::next::next_up;
+use elementary::root::sqrt;
+ghost use mathlib.Core.Path.{_≡_};
+ghost use lib.Ieee as Ieee;
+ghost use lib.Dec.{T};
+ghost use lib.Ieee.{binary64};
+ghost use lib.Ieee.Scale.{finite};
+ghost use Rattle.arithmetic.specs.Basic.{above};
+ghost use Rattle.range.specs.Rules as Rules;
+ghost use Rattle.range.specs.Rules.{rules, ranges};
+
+// Two ends. A range whose rule failed has ends that are NaN.
+pub struct Range {
+    pub lower: f64,
+    pub upper: f64,
+}
+
+// The range whose rule failed.
+pub fn failed() -> Range
+    ensures { λ r. ⌜ r ≡ Rules.failed ⌝ }
+{
+    let nan: f64 = 0.0 / 0.0;
+    Range {
+        lower: nan,
+        upper: nan,
+    }
+}
+
+// A zero, of either sign, is +0.
+fn plus_zero(x: f64) -> f64
+    ensures { λ r. ⌜ r ≡ Rules.plusZero x ⌝ }
+{
+    if x == 0.0 { 0.0 } else { x }
+}
+
+// The range of two ends, which must be finite.
+pub fn ends(l: f64, u: f64) -> Range
+    ensures { λ r. ⌜ r ≡ Rules.ends l u ⌝ }
+{
+    if !is_finite(l) {
+        return failed();
+    }
+    if !is_finite(u) {
+        return failed();
+    }
+    Range {
+        lower: plus_zero(l),
+        upper: plus_zero(u),
+    }
+}
+
+// Each end moved to the next double outwards.
+fn outwards(l: f64, u: f64) -> Range
+    ensures { λ r. ⌜ r ≡ Rules.outwards l u ⌝ }
+{
+    ends(next_down(l), next_up(u))
+}
+
+fn least(x: f64, y: f64) -> f64
+    ensures { λ r. ⌜ r ≡ Rules.least x y ⌝ }
+{
+    if x <= y { x } else { y }
+}
+
+fn greatest(x: f64, y: f64) -> f64
+    ensures { λ r. ⌜ r ≡ Rules.greatest x y ⌝ }
+{
+    if x <= y { y } else { x }
+}
+
+impl Range {
+    pub const ZERO: Range = Range {
+        lower: 0.0,
+        upper: 0.0,
+    };
+
+    pub const ONE: Range = Range {
+        lower: 1.0,
+        upper: 1.0,
+    };
+
+    pub fn point(x: f64) -> Range
+        ensures { λ r. ⌜ r ≡ ranges .constant x ⌝ }
+    {
+        ends(x, x)
+    }
+
+    // Whether both ends are finite.
+    pub fn is_ok(self) -> bool
+        ensures { λ r. ⌜ r ≡ Rules.ok self ⌝ }
+    {
+        if is_finite(self.lower) {
+            return is_finite(self.upper);
+        }
+        false
+    }
+
+    fn is_zero(self) -> bool
+        ensures { λ r. ⌜ r ≡ Rules.isZero self ⌝ }
+    {
+        if self.lower == 0.0 {
+            return self.upper == 0.0;
+        }
+        false
+    }
+
+    // Whether it does not hold 0.
+    fn is_apart(self) -> bool
+        ensures { λ r. ⌜ r ≡ Rules.apart self ⌝ }
+    {
+        if self.lower > 0.0 {
+            return true;
+        }
+        self.upper < 0.0
+    }
+
+    pub fn neg(self) -> Range
+        ensures { λ r. ⌜ r ≡ ranges .neg self ⌝ }
+    {
+        ends(-self.upper, -self.lower)
+    }
+
+    pub fn add(self, other: Range) -> Range
+        ensures { λ r. ⌜ r ≡ ranges .add self other ⌝ }
+    {
+        if !self.is_ok() {
+            return failed();
+        }
+        if !other.is_ok() {
+            return failed();
+        }
+        if self.is_zero() {
+            return other;
+        }
+        if other.is_zero() {
+            return self;
+        }
+        outwards(self.lower + other.lower, self.upper + other.upper)
+    }
+
+    pub fn sub(self, other: Range) -> Range
+        ensures { λ r. ⌜ r ≡ ranges .sub self other ⌝ }
+    {
+        self.add(other.neg())
+    }
+
+    pub fn mul(self, other: Range) -> Range
+        ensures { λ r. ⌜ r ≡ ranges .mul self other ⌝ }
+    {
+        if !self.is_ok() {
+            return failed();
+        }
+        if !other.is_ok() {
+            return failed();
+        }
+        if self.is_zero() {
+            return Range::ZERO;
+        }
+        if other.is_zero() {
+            return Range::ZERO;
+        }
+        products(self, other)
+    }
+
+    pub fn div(self, other: Range) -> Range
+        ensures { λ r. ⌜ r ≡ ranges .div self other ⌝ }
+    {
+        if !self.is_ok() {
+            return failed();
+        }
+        if !other.is_ok() {
+            return failed();
+        }
+        if !other.is_apart() {
+            return failed();
+        }
+        if self.is_zero() {
+            return Range::ZERO;
+        }
+        quotients(self, other)
+    }
+
+    // self * self * .. from the left, k factors; with none it is 1.
+    pub fn powi(self, k: u64) -> Range
+        ensures { λ r. ⌜ r ≡ ranges .powi self k ⌝ }
+    {
+        if k == 0 {
+            return Range::ONE;
+        }
+        let mut r = self;
+        let mut i: u64 = 1;
+        while i < k {
+            r = r.mul(self);
+            i += 1;
+        }
+        r
+    }
+
+    pub fn sqrt(self) -> Range
+        ensures { λ r. ⌜ r ≡ ranges .sqrt self ⌝ }
+    {
+        if !self.is_ok() {
+            return failed();
+        }
+        if self.is_zero() {
+            return Range::ZERO;
+        }
+        if self.lower < 0.0 {
+            return failed();
+        }
+        outwards(sqrt(self.lower), sqrt(self.upper))
+    }
+
+    // a where the whole range is below t, b where none of it is.
+    pub fn if_below(self, t: f64, a: Range, b: Range) -> Range
+        requires { ⌜ T (finite t) ⌝ }
+        ensures { λ r. ⌜ r ≡ ranges .ifBelow self t a b ⌝ }
+    {
+        let x = agreed(self.lower < t, self.upper < t, a, b);
+        if self.is_ok() { x } else { failed() }
+    }
+
+    // a where the whole range is above t, b where none of it is.
+    pub fn if_above(self, t: f64, a: Range, b: Range) -> Range
+        requires { ⌜ T (finite t) ⌝ }
+        ensures { λ r. ⌜ r ≡ rules .test (above t) self a b ⌝ }
+    {
+        let x = agreed(self.lower > t, self.upper > t, a, b);
+        if self.is_ok() { x } else { failed() }
+    }
+}
+
+// One case for both ends: a where both have it, b where neither has.
+fn agreed(i: bool, j: bool, a: Range, b: Range) -> Range
+    ensures { λ r. ⌜ r ≡ Rules.agreed i j a b ⌝ }
+{
+    if i {
+        if j {
+            return a;
+        }
+        return failed();
+    }
+    if j {
+        return failed();
+    }
+    b
+}
+
+// The least and the greatest of the four products of ends, moved outwards.
+fn products(r: Range, s: Range) -> Range
+    ensures { λ x. ⌜ x ≡ Rules.four (Ieee.mul binary64) r s ⌝ }
+{
+    let a = r.lower * s.lower;
+    let b = r.lower * s.upper;
+    let c = r.upper * s.lower;
+    let d = r.upper * s.upper;
+    outwards(
+        least(least(a, b), least(c, d)),
+        greatest(greatest(a, b), greatest(c, d)),
+    )
+}
+
+// The least and the greatest of the four quotients of ends, moved outwards.
+fn quotients(r: Range, s: Range) -> Range
+    ensures { λ x. ⌜ x ≡ Rules.four (Ieee.div binary64) r s ⌝ }
+{
+    let a = r.lower / s.lower;
+    let b = r.lower / s.upper;
+    let c = r.upper / s.lower;
+    let d = r.upper / s.upper;
+    outwards(
+        least(least(a, b), least(c, d)),
+        greatest(greatest(a, b), greatest(c, d)),
+    )
+}

@@ -1,0 +1,67 @@
+// ln and ln_1p of ranges, by the recipes of document 01.
+use crate::basic::Range;
+use crate::basic::failed;
+use crate::series::horner;
+use elementary::logarithm::L;
+use elementary::logarithm::ODDS;
+use elementary::logarithm::split;
+ghost use mathlib.Core.Path.{_≡_};
+ghost use lib.Dec.{T};
+ghost use lib.Ieee.{binary64, inFloat};
+ghost use Rattle.arithmetic.specs.Recipes as R;
+ghost use Rattle.range.specs.Rules.{rules, ranges};
+
+// (2s) * p.
+fn series(s: Range) -> Range
+    ensures { λ r. ⌜ r ≡ R.series rules s ⌝ }
+{
+    Range::point(2.0).mul(s).mul(horner(s.mul(s), &ODDS))
+}
+
+// ln of m * 2^e.
+fn ln_of(m: Range, e: i64) -> Range
+    requires { ⌜ T (inFloat binary64 e) ⌝ }
+    ensures { λ r. ⌜ r ≡ R.lnOf rules m e ⌝ }
+{
+    let one = Range::point(1.0);
+    let s = m.sub(one).div(m.add(one));
+    series(s).add(Range::point(e as f64).mul(Range::point(L)))
+}
+
+impl Range {
+    // The natural logarithm of a range above 0, both of whose ends have one e.
+    pub fn ln(self) -> Range
+        ensures { λ r. ⌜ r ≡ ranges .ln self ⌝ }
+    {
+        if !self.is_ok() {
+            return failed();
+        }
+        if self.lower <= 0.0 {
+            return failed();
+        }
+        if self.upper <= 0.0 {
+            return failed();
+        }
+        let a = split(f64::to_bits(self.lower));
+        let b = split(f64::to_bits(self.upper));
+        if a.e != b.e {
+            return failed();
+        }
+        let m = Range {
+            lower: a.m,
+            upper: b.m,
+        };
+        ln_of(m, a.e)
+    }
+
+    // The natural logarithm of 1 + v.
+    pub fn ln_1p(self) -> Range
+        ensures { λ r. ⌜ r ≡ ranges .ln1p self ⌝ }
+    {
+        let ln = Range::point(1.0).add(self).ln();
+        let near = series(self.div(Range::point(2.0).add(self)));
+        let below = self.if_above(-1.0, ln, failed());
+        let within = self.if_above(0.25, ln, near);
+        self.if_below(-0.25, below, within)
+    }
+}
