@@ -10,6 +10,7 @@ pub mod Recipes
 pub mod Certified
 pub mod Example
 pub mod Rows
+pub mod Points
 pub mod Testing
 pub mod Whole
 pub mod Place

@@ -16,13 +16,13 @@ use Rattle.uvtheory.specs.Held.{PairOf, CombinedOf, Symmetric}
 use Rattle.uvtheory.proofs.Loops.{mirror}
 
 module _ {X : Type 0} (pure : ℕ → X) (f : ℕ → ℕ → X) where
-  itself : (i : ℕ) → combined pure f i i ≡ pure i
+  pub itself : (i : ℕ) → combined pure f i i ≡ pure i
   itself i = simp (eq-eqb i i refl)
 
   pub below : (i j : ℕ) → i < j → combined pure f i j ≡ f i j
   below i j h = simp (ne-eqb i j (λ e. omega arith), lt-ltb i j h)
 
-  above : (i j : ℕ) → j < i → combined pure f i j ≡ f j i
+  pub above : (i j : ℕ) → j < i → combined pure f i j ≡ f j i
   above i j h = simp (ne-eqb i j (λ e. omega arith), le-ltb i j (let z : j < i = h in le-of-lt z))
 
   pub flip : (i j : ℕ) → j < i → combined pure f i j ≡ combined pure f j i

@@ -69,15 +69,15 @@ module _ (A B : Arithmetic) (R : A .Value → B .Value → Type 0) (K : Kept A B
       sr = record { temperature = s .temperature .right; partial-density = λ i. s .partial-density i .right; molefracs = λ i. s .molefracs i .right }
 
       bh-sphere : R (Bh.residual-helmholtz-energy-contributions A left sl .hard-sphere) (Bh.residual-helmholtz-energy-contributions B right sr .hard-sphere)
-      unfolding S.helmholtz-energy-density S.bmcsl S.weighted-zeta BhS.diameter-bh BhS.diameter-of bh-coefficient mie-prefactor mean-field-of
+      unfolding S.helmholtz-energy-density S.bmcsl S.weighted-zeta BhS.diameter-bh BhS.quarter-powers BhS.diameter-by bh-coefficient mie-prefactor mean-field-of
       bh-sphere = (Bh.residual-helmholtz-energy-contributions AB pars s .hard-sphere) .holds
 
       bh-reference : R (Bh.residual-helmholtz-energy-contributions A left sl .reference) (Bh.residual-helmholtz-energy-contributions B right sr .reference)
-      unfolding BhR.helmholtz-energy-density BhR.term-of BhR.term BhS.tau RE.energy P.packing-fraction P.packing-fraction-a P.coefficient-a P.packing-fraction-b P.coefficient-b BhS.diameter-bh BhS.diameter-of bh-coefficient mie-prefactor mean-field-of
+      unfolding BhR.helmholtz-energy-density BhR.term-of BhR.term BhS.tau RE.energy P.packing-fraction P.packing-fraction-a P.coefficient-a P.packing-fraction-b P.coefficient-b BhS.diameter-bh BhS.quarter-powers BhS.diameter-by bh-coefficient mie-prefactor mean-field-of
       bh-reference = (Bh.residual-helmholtz-energy-contributions AB pars s .reference) .holds
 
       bh-attractive : R (Bh.residual-helmholtz-energy-contributions A left sl .attractive) (Bh.residual-helmholtz-energy-contributions B right sr .attractive)
-      unfolding BhA.helmholtz-energy-density BhA.energy BhA.residual-virial-coefficient BhA.delta-b2 BhA.y-eff-of BhA.beta-eff BhA.delta-b12u BhA.correlation-integral-of BhA.coefficient-1 BhA.c11 BhA.c12 BhA.c13 BhA.coefficient BhA.u-fraction-bh BhA.activation BhS.diameter-bh BhS.diameter-of bh-coefficient mie-prefactor mean-field-of O.mean-cube O.weighted-pairs O.pair-mean O.cube-root
+      unfolding BhA.helmholtz-energy-density BhA.energy BhA.residual-virial-coefficient BhA.delta-b2 BhA.y-eff-of BhA.beta-eff BhA.delta-b12u BhA.correlation-integral-of BhA.coefficient-1 BhA.c11 BhA.c12 BhA.c13 BhA.coefficient BhA.u-fraction-bh BhA.activation BhS.diameter-bh BhS.quarter-powers BhS.diameter-by bh-coefficient mie-prefactor mean-field-of O.mean-cube O.weighted-pairs O.pair-mean O.cube-root
       bh-attractive = (Bh.residual-helmholtz-energy-contributions AB pars s .attractive) .holds
 
       wca-sphere : R (Wca.residual-helmholtz-energy-contributions A left sl .hard-sphere) (Wca.residual-helmholtz-energy-contributions B right sr .hard-sphere)

@@ -45,7 +45,7 @@ pub struct Combined {
 }
 
 // Constants for BH temperature dependent HS diameter.
-const CD_BH: [[f64; 3]; 4] = [
+pub const CD_BH: [[f64; 3]; 4] = [
     [0.0, 1.09360455168912E-02, 0.0],
     [-2.00897880971934E-01, -1.27074910870683E-02, 0.0],
     [
@@ -112,7 +112,7 @@ pub fn bh_coefficients(rep: f64, inv_a76: f64) -> [f64; 5]
 }
 
 // The place of k_ij.
-fn place(n: usize, i: usize, j: usize) -> usize
+pub fn place(n: usize, i: usize, j: usize) -> usize
     requires { ⌜ (i < j) × (j < n) × (n ≤ 8) ⌝ }
     ensures { λ r. ⌜ (r ≡ placeOf n i j) × (r < 28) ⌝ }
 {

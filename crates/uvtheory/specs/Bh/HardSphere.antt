@@ -12,10 +12,14 @@ module _ (A : Arithmetic) where
   infix 80 -_
   infix 90 _^_
   -- of one component, by its reduced temperature t and coefficients c
-  unfoldable pub diameter-of : Value → Value → Value → Value → Value → Value → Value → Value → Value
-  diameter-of t c0 c1 c2 c3 c4 rep sigma =
-      let d = powf t (constant quarter) * c1 + powf t (constant threeQuarters) * c2 + powf t (constant fiveQuarters) * c3 in
-      powf (t * c0 + d * ln (t + constant one) + t ^ 2 * c4 + constant one) (constant minusHalf / rep) * sigma
+  unfoldable pub quarter-powers : Value → Value → Value → Value → Value
+  quarter-powers t c1 c2 c3 = powf t (constant quarter) * c1 + powf t (constant threeQuarters) * c2 + powf t (constant fiveQuarters) * c3
+
+  unfoldable pub diameter-by : Value → Value → Value → Value → Value → Value → Value
+  diameter-by t d c0 c4 rep sigma = powf (t * c0 + d * ln (t + constant one) + t ^ 2 * c4 + constant one) (constant minusHalf / rep) * sigma
+
+  abbrev pub diameter-of : Value → Value → Value → Value → Value → Value → Value → Value → Value
+  diameter-of t c0 c1 c2 c3 c4 rep sigma = diameter-by t (quarter-powers t c1 c2 c3) c0 c4 rep sigma
 
   unfoldable pub diameter-bh : UVTheoryPars Value → Value → ℕ → Value
   diameter-bh p temperature i =

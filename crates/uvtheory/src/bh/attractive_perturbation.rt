@@ -24,7 +24,7 @@ ghost use Rattle.uvtheory.specs.Held.{CombinedOf, Symmetric};
 ghost use Rattle.uvtheory.specs.Bh.HardSphere.{diameter-bh};
 ghost use Rattle.uvtheory.specs.Bh.AttractivePerturbation as F;
 
-const C_BH: [[f64; 4]; 2] = [
+pub const C_BH: [[f64; 4]; 2] = [
     [
         0.168966996450507,
         -0.991545819144238,
@@ -40,7 +40,7 @@ const C_BH: [[f64; 4]; 2] = [
 ];
 
 // Constants for BH u-fraction.
-const CU_BH: [[f64; 2]; 4] = [
+pub const CU_BH: [[f64; 2]; 4] = [
     [0.72188, 0.0],
     [-0.0059822, 2.4676],
     [2.2919, 14.9735],
@@ -48,7 +48,7 @@ const CU_BH: [[f64; 2]; 4] = [
 ];
 
 // Constants for BH effective inverse reduced temperature.
-const C2: [[f64; 2]; 3] = [
+pub const C2: [[f64; 2]; 3] = [
     [1.50542979585173e-03, 3.90426109607451e-02],
     [3.23388827421376e-04, 1.29508541592689e-02],
     [5.25749466058948e-05, 5.26748277148572e-04],

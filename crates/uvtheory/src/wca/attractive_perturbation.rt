@@ -78,10 +78,10 @@ pub const C_WCA: [[f64; 6]; 6] = [
 ];
 
 // Constants for WCA u-fraction.
-const CU_WCA: [f64; 3] = [1.4419, 1.1169, 16.8810];
+pub const CU_WCA: [f64; 3] = [1.4419, 1.1169, 16.8810];
 
 // Constants for WCA effective inverse reduced temperature.
-const C2: [[f64; 2]; 3] = [
+pub const C2: [[f64; 2]; 3] = [
     [1.45805207053190E-03, 3.57786067657446E-02],
     [1.25869266841313E-04, 1.79889086453277E-03],
     [0.0, 0.0],

@@ -34,7 +34,7 @@ ghost use Rattle.uvtheory.specs.Wca.HardSphere.{diameter-wca};
 ghost use Rattle.uvtheory.specs.Wca.AttractivePerturbationUvb3 as F;
 
 // Constants for delta B2 RSAP
-const C_B2_RSAP: [[f64; 4]; 4] = [
+pub const C_B2_RSAP: [[f64; 4]; 4] = [
     [-0.063550989, 6.206829830, -37.45829549, 40.72849774],
     [1.519053409, 13.14989643, 85.35058674, 374.1906360],
     [0.693456220, 9.459946180, -53.28984218, 315.8199084],
@@ -42,7 +42,7 @@ const C_B2_RSAP: [[f64; 4]; 4] = [
 ];
 
 // Constants for B3 Model for Mie nu-6 fluids
-const K_LJ_B3: [f64; 16] = [
+pub const K_LJ_B3: [f64; 16] = [
     -3.9806,
     79.565,
     0.5489,
@@ -61,16 +61,16 @@ const K_LJ_B3: [f64; 16] = [
     12.798,
 ];
 
-const P_B3: [f64; 4] = [0.80844, -0.09541, 0.47525, -2.83283];
+pub const P_B3: [f64; 4] = [0.80844, -0.09541, 0.47525, -2.83283];
 
-const L_B3: [f64; 4] = [4.9485, -21.3, 7.0, 3.2162];
+pub const L_B3: [f64; 4] = [4.9485, -21.3, 7.0, 3.2162];
 
-const M_B3: [f64; 4] = [0.11853, 0.078556, -0.55039, 0.009163];
+pub const M_B3: [f64; 4] = [0.11853, 0.078556, -0.55039, 0.009163];
 
-const CU_WCA: [f64; 8] = [26.454, 1.8045, 1.7997, 161.96, 11.605, 12.0, 0.4, 2.0];
+pub const CU_WCA: [f64; 8] = [26.454, 1.8045, 1.7997, 161.96, 11.605, 12.0, 0.4, 2.0];
 
 // 2! to 15!, and 2 to 15.
-const FACTORIALS: [f64; 14] = [
+pub const FACTORIALS: [f64; 14] = [
     2.0,
     6.0,
     24.0,
@@ -87,7 +87,7 @@ const FACTORIALS: [f64; 14] = [
     1307674368000.0,
 ];
 
-const WHOLES: [f64; 14] = [
+pub const WHOLES: [f64; 14] = [
     2.0,
     3.0,
     4.0,

@@ -13,7 +13,7 @@ ghost use Rattle.uvtheory.specs.Held.{Symmetric};
 ghost use Rattle.uvtheory.specs.Lengths.{ComponentLengthsOf};
 ghost use Rattle.uvtheory.specs.Wca.HardSphere as F;
 
-const WCA_CONSTANTS_Q: [[f64; 4]; 3] = [
+pub const WCA_CONSTANTS_Q: [[f64; 4]; 3] = [
     [1.92840364363978, 4.43165896265079E-01, 0.0, 0.0],
     [
         5.20120816141761E-01,

@@ -6,7 +6,7 @@ use Rattle.uvtheory.proofs.bh.hard_sphere.diameter_of.Statement.{statem
 use Rattle.uvtheory.proofs.bh.hard_sphere.diameter_of.Tie as tie
 
 returns : tie.Need-returns
-unfolding F.diameter-of powerBy
+unfolding F.quarter-powers F.diameter-by powerBy
 returns c = simp (c .powf4 .ensures, c .before .div .ensures, c .before .before .ln .ensures, c .before .before .before .powf3 .ensures, c .before .before .before .before .powf2 .ensures, c .before .before .before .before .before .powf .ensures) refl
 
 pub diameter-of-spec : {M : Type 1} → statement M

@@ -1,0 +1,2 @@
+-- Laws for the code on ranges.
+pub mod Combined

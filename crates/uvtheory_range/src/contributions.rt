@@ -1,0 +1,8 @@
+// The ends of the three contributions, in the order of the answer.
+use range::basic::Range;
+
+pub struct Contributions {
+    pub hard_sphere: Range,
+    pub reference: Range,
+    pub attractive: Range,
+}
