@@ -14,7 +14,7 @@ use Rattle.range.specs.Rules.{range, failed, zero, point, rules, ranges}
 use Rattle.range.specs.Rules as Rules
 
 -- ---- document 01's rows: [1,1] + [1,1] = [2 − 2^−52, 2 + 2^−51], and [0,0] × [5,5] = [0,0]
-rows : (ranges .add (point one) (point one) ≡ range (bits 0x3FFFFFFFFFFFFFFF) (bits 0x4000000000000001)) × (ranges .mul (point zeroD) (point (nearest 5 1)) ≡ zero)
+pub rows : (ranges .add (point one) (point one) ≡ range (bits 0x3FFFFFFFFFFFFFFF) (bits 0x4000000000000001)) × (ranges .mul (point zeroD) (point (nearest 5 1)) ≡ zero)
 unfolding Rules.point Rules.add Rules.mul nextUp nextDown toBits ofBits round fits add mul lt eq le
 rows = (refl, refl)
 
