@@ -8,21 +8,19 @@ unfolding F.packing-fraction-b
 returns c =
     let c1 = c .before in let c2 = c1 .before in let c3 = c2 .before in let c4 = c3 .before in let c5 = c4 .before in let c6 = c5 .before in
     let c7 = c6 .before in let c8 = c7 .before in let c9 = c8 .before in let c10 = c9 .before in let c11 = c10 .before in let c12 = c11 .before in
-    let c13 = c12 .before in let c14 = c13 .before in
     rw (
       c .add3 .ensures,
-      c1 .mul5 .ensures,
+      c1 .mul4 .ensures,
       c2 .powi .ensures,
       c3 .add2 .ensures,
-      c4 .mul4 .ensures,
-      c5 .mul3 .ensures,
+      c4 .mul3 .ensures,
+      c5 .mul2 .ensures,
       c6 .add .ensures,
-      c7 .mul2 .ensures,
+      c7 .mul .ensures,
       c8 .coefficient-b3 .ensures,
       c10 .coefficient-b2 .ensures,
       c12 .coefficient-b .ensures,
-      c14 .mul .ensures,
     )
 
 pub packing-fraction-b-spec : {M : Type 1} → statement M
-packing-fraction-b-spec = tie.close (tie.spec (λ c κs. tt) (λ c. search needs) (λ c κs. tt) (λ c. search needs) (λ c κs. tt) (λ c. search needs) (λ c κs. tt) (λ c κs. tt) (λ c κs. tt) (λ c κs. tt) (λ c κs. tt) (λ c κs. tt) (λ c κs. tt) (λ c κs. tt) (λ c κs. tt) returns)
+packing-fraction-b-spec = tie.close (tie.spec (λ c. search needs) (λ c κs. tt) (λ c. search needs) (λ c κs. tt) (λ c. search needs) (λ c κs. tt) (λ c κs. tt) (λ c κs. tt) (λ c κs. tt) (λ c κs. tt) (λ c κs. tt) (λ c κs. tt) (λ c κs. tt) (λ c κs. tt) returns)
