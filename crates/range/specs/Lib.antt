@@ -3,3 +3,4 @@ pub mod Rules
 pub mod Horner
 pub mod Exact
 pub mod Enclosed
+pub mod Applied
