@@ -1,0 +1,245 @@
+#!/usr/bin/env python3
+"""Compares every compiled method of crate range, bit for bit, with document 01's rules in whole numbers (range_rules.py).
+
+measure/ranges.py          345,160 operand pairs for each basic operation, 50,760 for each elementary function
+measure/ranges.py --quick  12,000 and 2,500
+measure/ranges.py --slips  makes the slips of range_slips.txt in the rules, one at a time; the quick comparison must see each
+
+The operands are the same in each run. Ends with a status other than 0 where anything differs.
+Needs x86-64 Linux, rt and a C compiler (CC, or cc); writes below target/ only.
+"""
+import contextlib
+import ctypes
+import io
+import os
+import random
+import struct
+import subprocess
+import sys
+import time
+import types
+from pathlib import Path
+
+sys.dont_write_bytecode = True
+import range_rules as rules
+from range_rules import INFINITY, LARGEST, NAN, ONE, SIGN, double_of, is_finite, nearest, next_down, next_up, units
+
+HERE = Path(__file__).resolve().parent
+TARGET = HERE.parent / "target"
+
+# The methods in the order of their numbers (crates/range/specs/Applied.antt), with the rule of each.
+METHODS = {
+    "neg": lambda k, t, a, b: rules.neg(a),
+    "add": lambda k, t, a, b: rules.add(a, b),
+    "sub": lambda k, t, a, b: rules.sub(a, b),
+    "mul": lambda k, t, a, b: rules.mul(a, b),
+    "div": lambda k, t, a, b: rules.div(a, b),
+    "powi": lambda k, t, a, b: rules.powi(a, k),
+    "sqrt": lambda k, t, a, b: rules.sqrt(a),
+    "ln": lambda k, t, a, b: rules.ln(a),
+    "ln_1p": lambda k, t, a, b: rules.ln_1p(a),
+    "exp": lambda k, t, a, b: rules.exp(a),
+    "powf": lambda k, t, a, b: rules.powf(a, b),
+    "tanh": lambda k, t, a, b: rules.tanh(a),
+    "if_below": lambda k, t, a, b: rules.if_below(a, t, a, b),
+    "if_above": lambda k, t, a, b: rules.if_above(a, t, a, b),
+}
+ELEMENTARY = {"ln", "ln_1p", "exp", "powf", "tanh"}
+OF_TWO = {"add", "sub", "mul", "div", "powf"}
+FAILED = (NAN, NAN)
+
+
+# ---- the compiled methods
+
+
+def build():
+    """The shared object. The archive is made anew, and its crates proved for it, where a file of theirs is newer."""
+    archive, shared = TARGET / "staticlib/librange.a", TARGET / "measure/librange.so"
+    crates = [HERE.parent / "crates" / name for name in ("arithmetic", "elementary", "range")]
+    sources = [f for crate in crates for f in crate.rglob("*") if f.suffix in (".rt", ".antt")]
+    if not archive.exists() or max(f.stat().st_mtime for f in sources) > archive.stat().st_mtime:
+        made = subprocess.run(["rt", "staticlib", "range"], cwd=HERE.parent, capture_output=True, text=True)
+        if made.returncode != 0:
+            sys.exit(made.stdout + made.stderr)
+    shared.parent.mkdir(parents=True, exist_ok=True)
+    whole = ["-Wl,--whole-archive", str(archive), "-Wl,--no-whole-archive"]
+    subprocess.run([os.environ.get("CC", "cc"), "-shared", "-o", str(shared), *whole], check=True)
+    return shared
+
+
+def compiled_methods(shared):
+    library = ctypes.CDLL(str(shared))
+    functions = (library.noddyfir_range_lower, library.noddyfir_range_upper)
+    for f in functions:
+        f.argtypes = [ctypes.c_uint64] * 2 + [ctypes.c_double] * 5
+        f.restype = ctypes.c_double
+
+    def call(op, k, t, a, b):
+        numbers = struct.unpack("<5d", struct.pack("<5Q", t, *a, *b))
+        return struct.unpack("<2Q", struct.pack("<2d", *[f(op, k, *numbers) for f in functions]))
+
+    return call
+
+
+# ---- operands
+
+
+def limits():
+    """The doubles at which a rule changes, and the least and largest doubles. Each stands for its negative too."""
+    found = [0, 1, 1 << 52, LARGEST]
+    found += [double_of(n * ONE // 4) for n in (1, 2, 3, 4, 6, 8, 80, 700, 2800)]
+    for e in (-1073, -1023, -1022, -500, -30, -2, -1, 1, 2, 3, 30, 500, 1022, 1023):
+        for m in (3 * ONE // 4, 3 * ONE // 2):  # another e of ln, and the same of ln_1p
+            n = m << e if e >= 0 else m >> -e
+            if n < rules.TOO_LARGE:
+                found += [double_of(n), double_of(nearest(n - ONE))]
+    log2_e = units(rules.E[0])
+    for k in (-1010, -1009, -58, -57, -20, -2, -1, 0, 1, 2, 20, 57, 58, 1008, 1009):
+        for half in (-1, 1):  # another k of exp, and the same of tanh
+            n = (2 * k + half) * ONE * ONE
+            found += [double_of(nearest(n, 2 * log2_e)), double_of(nearest(n, 4 * log2_e))]
+    return sorted({double & (SIGN - 1) for double in found})
+
+
+LIMITS = [sign | double for double in limits() for sign in (0, SIGN)]
+# .. with one double to each side
+EDGES = sorted({edge for x in LIMITS for edge in (next_down(x), x, next_up(x)) if is_finite(edge)})
+
+
+def moved(double, steps):
+    """The double so many doubles above it, or below it where steps is negative; the largest is the last."""
+    for _ in range(abs(steps)):
+        beside = next_up(double) if steps > 0 else next_down(double)
+        double = beside if is_finite(beside) else double
+    return double
+
+
+class Operands:
+    def __init__(self, seed):
+        self.random = random.Random(seed)
+
+    def end(self):
+        """An edge, any double, or a double of common size."""
+        r = self.random
+        which = r.randrange(4)
+        if which == 0:
+            return r.choice(EDGES)
+        exponent = r.randrange(0x7FF) if which == 1 else r.randrange(1013, 1033)
+        return r.getrandbits(1) << 63 | exponent << 52 | r.getrandbits(52)
+
+    def range(self):
+        """A point, a narrow range, one at or across a limit, one of any ends in either order, [0,0], or a failed one."""
+        r = self.random
+        which = r.randrange(20)
+        if which < 6:
+            return (self.end(),) * 2
+        if which < 11:
+            lower = self.end()
+            return (lower, moved(lower, r.randrange(1, 5)))
+        if which < 14:
+            limit = r.choice(LIMITS)
+            return (moved(limit, -r.randrange(4)), moved(limit, r.randrange(4)))
+        if which < 18:
+            pair = sorted((self.end(), self.end()), key=units)
+            return tuple(pair if which < 17 else reversed(pair))
+        if which == 18:
+            return (r.choice((0, SIGN)), r.choice((0, SIGN)))
+        x = self.end()
+        return r.choice((FAILED, (NAN, x), (x, NAN), (INFINITY | SIGN, x), (x, INFINITY)))
+
+    def limit(self, a):
+        """The limit t of a case: an end of the range, a double beside one, or any; at times one that is not finite."""
+        r = self.random
+        which = r.randrange(8)
+        if which < 4 and is_finite(a[which % 2]):
+            return moved(a[which % 2], r.randrange(-1, 2))
+        return r.choice((NAN, INFINITY, INFINITY | SIGN)) if which == 7 else self.end()
+
+    def of(self, name, crossed, count):
+        """Each edge as a point, and with the double above it; edges with edges, as two points or as the two ends of a range; then by chance."""
+        pairs = [(x, y) for x in EDGES for y in EDGES]
+        if crossed < len(pairs):
+            pairs = self.random.sample(pairs, crossed)
+        first = [((x, moved(x, step)), self.range()) for x in EDGES for step in (0, 1)]
+        first += [((x, x), (y, y)) if name in OF_TWO else ((x, y), self.range()) for x, y in pairs]
+        for a, b in first + [(self.range(), self.range()) for _ in range(count)]:
+            yield self.random.randrange(13), self.limit(a), a, b
+
+
+# ---- the comparison
+
+
+def shown(r):
+    return "[%s]" % ", ".join(struct.unpack("<d", struct.pack("<Q", end))[0].hex() for end in r)
+
+
+def is_nan(double):
+    return double & (SIGN - 1) > INFINITY
+
+
+def same(one, other):
+    """By bits. There is one NaN: no contract tells two apart."""
+    return all(x == y or is_nan(x) and is_nan(y) for x, y in zip(one, other))
+
+
+def compare(call, op, name, crossed, count):
+    total = with_ends = differ = 0
+    results = set()
+    for k, t, a, b in Operands(op).of(name, crossed, count):
+        try:
+            expected = METHODS[name](k, t, a, b)
+        except rules.Fails:
+            expected = FAILED
+        total += 1
+        if all(map(is_finite, expected)):
+            with_ends += 1
+            results.add(expected)
+        found = call(op, k, t, a, b)
+        if not same(found, expected):
+            differ += 1
+            if differ <= 3:
+                print(f"{name}(k {k}, t {shown((t,))}, {shown(a)}, {shown(b)}): compiled {shown(found)}, by the rules {shown(expected)}")
+    print(f"{name:9} {total} operand pairs: {with_ends} have ends ({len(results)} different), {total - with_ends} fail; {differ} differ", flush=True)
+    return differ
+
+
+def differences(call, quick):
+    """Of each method in turn."""
+    for op, name in enumerate(METHODS):
+        if name in ELEMENTARY:
+            yield compare(call, op, name, *((240, 1500) if quick else (10000, 40000)))
+        else:
+            yield compare(call, op, name, *((3240, 8000) if quick else (len(EDGES) ** 2, 200000)))
+
+
+def see_slips(call):
+    global rules
+    text = (HERE / "range_rules.py").read_text()
+    for slip in (HERE / "range_slips.txt").read_text().splitlines():
+        old, new = slip.split(" => ")
+        if text.count(old) != 1:
+            sys.exit(f"does not apply: {slip}")
+        rules = types.ModuleType("slip")
+        exec(text.replace(old, new), rules.__dict__)
+        with contextlib.redirect_stdout(io.StringIO()):
+            try:
+                seen = any(differences(call, True))
+            except AssertionError:
+                seen = True
+        if not seen:
+            sys.exit(f"not seen: {slip}")
+        print(f"seen: {slip}", flush=True)
+
+
+def main():
+    call = compiled_methods(build())
+    if sys.argv[1:] == ["--slips"]:
+        return see_slips(call)
+    started = time.monotonic()
+    differ = sum(differences(call, sys.argv[1:] == ["--quick"]))
+    print(f"ranges: {differ} differ; {time.monotonic() - started:.0f} seconds")
+    sys.exit(differ > 0)
+
+
+if __name__ == "__main__":
+    main()
