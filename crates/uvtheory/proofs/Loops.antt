@@ -9,18 +9,24 @@ use native.Mathlib.Nat.{mul-le-mul, div-lt-iff-lt-mul, mod-lt, div-add-mod', le-
 use native.Mathlib.Numerals.{add-one}
 use native.Mathlib.Omega.{arith}
 use lib.Dec.{lit≤}
-use lib.Ieee.{Float, nan, binary64, add}
 use mir.Syntax.{w64}
 use mir.Val.{Fits}
-use Rattle.arithmetic.specs.Arithmetic.{sumBy}
-use Rattle.arithmetic.specs.Doubles.{guarded}
-use Rattle.uvtheory.specs.Rows.{Row}
+use Rattle.arithmetic.specs.Basic.{Basic}
+use Rattle.arithmetic.specs.Arithmetic.{sumBy, over}
+use Rattle.uvtheory.specs.Rows.{RowOf}
 
-pub sum-step : (f : ℕ → Float) (i : ℕ) → guarded .sum (i + 1) f ≡ add binary64 (guarded .sum i f) (f i)
-unfolding sumBy
-sum-step f i = rw (add-one i)
+-- ---- sums, in any arithmetic over the operations B and a root
+module _ (B : Basic) (root : B .Value → B .Value) where
+  pub sum-step : (f : ℕ → B .Value) (i : ℕ) → over B root .sum (i + 1) f ≡ B .add (over B root .sum i f) (f i)
+  unfolding sumBy
+  sum-step f i = rw (add-one i)
 
--- the row and the column of the k-th of n × n
+  pub sum-ext : (n : ℕ) (f g : ℕ → B .Value) → ((i : ℕ) → i < n → f i ≡ g i) → over B root .sum n f ≡ over B root .sum n g
+  unfolding sumBy
+  sum-ext zero f g h = refl
+  sum-ext (suc n) f g h = ap₂ (B .add) (sum-ext n f g (λ i l. h i (omega arith))) (h n (le-refl (suc n)))
+
+-- ---- the row and the column of the k-th of n × n
 some-rows : (n k : ℕ) → k < n * n → 0 < n
 some-rows zero k h = absurd (omega (arith, h))
 some-rows (suc n) k h = omega arith
@@ -43,12 +49,6 @@ pair-column n i j h = let e = at-pair n (i * n + j) in let q = pair-row n i j h 
 -- below the diagonal the pair (j, i) stands before the pair (i, j)
 mirrored : (n k : ℕ) → k % n < n → k % n < k / n → k / n < n → k % n * n + k / n < k
 mirrored n k c h r = let z : suc (k % n) * n ≤ k / n * n = mul-le-mul h (le-refl n) in omega (arith, suc-mul (k % n) n, z, at-pair n k)
-
--- ---- sums of equal terms
-pub sum-ext : (n : ℕ) (f g : ℕ → Float) → ((i : ℕ) → i < n → f i ≡ g i) → guarded .sum n f ≡ guarded .sum n g
-unfolding sumBy
-sum-ext zero f g h = refl
-sum-ext (suc n) f g h = ap₂ (add binary64) (sum-ext n f g (λ i l. h i (omega arith))) (h n (le-refl (suc n)))
 
 -- ---- what an access asks. The loops answer by these facts, since `omega` would work each anew.
 pub record At (size i : ℕ) : Type 0 where
@@ -101,23 +101,24 @@ pair-within n k h l =
       less = omega arith;
     }
 
--- ---- an array that is filled from its start
-pub row-set : (f : ℕ → Float) (v : Float) (i : ℕ) (xs : List Float) → i < length xs → Row i xs f → v ≡ f i → Row (i + 1) (set xs i v) f
-row-set f v i xs l h e j k = go (eq-or-lt-of-le (le-of-suc-le-suc (subst (λ (n : ℕ). j < n) (add-one i) k)))
-  where
-    go : (j ≡ i) ⊎ (j < i) → getD (set xs i v) j nan ≡ f j
-    go (inl p) = subst (λ (n : ℕ). getD (set xs i v) n nan ≡ f n) (sym p) (getD-set-same xs i v nan l ∙ e)
-    go (inr q) = getD-set-other xs i j v nan (λ p. lt-irrefl i (subst (λ (n : ℕ). n < i) p q)) ∙ h j q
+-- ---- an array that is filled from its start; `none` is read past its end
+module _ {X : Type 0} (none : X) where
+  pub row-set : (f : ℕ → X) (v : X) (i : ℕ) (xs : List X) → i < length xs → RowOf none i xs f → v ≡ f i → RowOf none (i + 1) (set xs i v) f
+  row-set f v i xs l h e j k = go (eq-or-lt-of-le (le-of-suc-le-suc (subst (λ (n : ℕ). j < n) (add-one i) k)))
+    where
+      go : (j ≡ i) ⊎ (j < i) → getD (set xs i v) j none ≡ f j
+      go (inl p) = subst (λ (n : ℕ). getD (set xs i v) n none ≡ f n) (sym p) (getD-set-same xs i v none l ∙ e)
+      go (inr q) = getD-set-other xs i j v none (λ p. lt-irrefl i (subst (λ (n : ℕ). n < i) p q)) ∙ h j q
 
--- the first k pairs of an array for all
-abbrev pub Filled : ℕ → ℕ → List Float → (ℕ → ℕ → Float) → Type 0
-Filled n k xs f = (length xs ≡ 64) × Row k xs (λ k. f (k / n) (k % n))
+  -- the first k pairs of an array for all
+  abbrev pub Filled : ℕ → ℕ → List X → (ℕ → ℕ → X) → Type 0
+  Filled n k xs f = (length xs ≡ 64) × RowOf none k xs (λ k. f (k / n) (k % n))
 
-pub one-more : (n k : ℕ) (xs : List Float) (f : ℕ → ℕ → Float) (v : Float) → k < 64 → Filled n k xs f → v ≡ f (k / n) (k % n) → Filled n (k + 1) (set xs k v) f
-one-more n k xs f v l h e = (simp length-set (h .0), row-set _ v k xs (let z = h .0 in omega arith) (h .1) e)
+  pub one-more : (n k : ℕ) (xs : List X) (f : ℕ → ℕ → X) (v : X) → k < 64 → Filled n k xs f → v ≡ f (k / n) (k % n) → Filled n (k + 1) (set xs k v) f
+  one-more n k xs f v l h e = (simp length-set (h .0), row-set _ v k xs (let z = h .0 in omega arith) (h .1) e)
 
--- what stands at (j, i), while an array is filled up to (i, j) below the diagonal
-pub mirror : (f : ℕ → ℕ → Float) (n k : ℕ) (xs : List Float) → k < n * n → k % n < k / n → Row k xs (λ k. f (k / n) (k % n)) → getD xs (k % n * n + k / n) nan ≡ f (k % n) (k / n)
-mirror f n k xs h l held =
-    let r = row-of n k h in
-    held (k % n * n + k / n) (mirrored n k (column-of n k h) l r) ∙ ap₂ f (pair-row n (k % n) (k / n) r) (pair-column n (k % n) (k / n) r)
+  -- what stands at (j, i), while an array is filled up to (i, j) below the diagonal
+  pub mirror : (f : ℕ → ℕ → X) (n k : ℕ) (xs : List X) → k < n * n → k % n < k / n → RowOf none k xs (λ k. f (k / n) (k % n)) → getD xs (k % n * n + k / n) none ≡ f (k % n) (k / n)
+  mirror f n k xs h l held =
+      let r = row-of n k h in
+      held (k % n * n + k / n) (mirrored n k (column-of n k h) l r) ∙ ap₂ f (pair-row n (k % n) (k / n) r) (pair-column n (k % n) (k / n) r)

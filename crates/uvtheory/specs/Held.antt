@@ -25,8 +25,12 @@ pub record CombinedOf (m : Mixture) (c : Combined) : Type 0 where
   pub epsilon-are : Matrix (m .n) (c .«eps_k_ij») (parameters guarded m .eps-k-ij)
 
 -- below the diagonal stands what stands above it
+module _ {X : Type 0} (none : X) where
+  abbrev pub SymmetricOf : ℕ → List X → Type 0
+  SymmetricOf n xs = (k : ℕ) → k < n * n → k % n < k / n → getD xs (k % n * n + k / n) none ≡ getD xs k none
+
 abbrev pub Symmetric : ℕ → List Float → Type 0
-Symmetric n xs = (k : ℕ) → k < n * n → k % n < k / n → getD xs (k % n * n + k / n) nan ≡ getD xs k nan
+Symmetric = SymmetricOf nan
 
 -- the three energies, as the code holds them
 pub record ContributionsOf (held : Held) (c : Contributions Float) : Type 0 where

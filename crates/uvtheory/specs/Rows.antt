@@ -11,18 +11,33 @@ use Rattle.uvtheory.specs.declared.one_fluid.OneFluid.{OneFluid as Held}
 use Rattle.uvtheory.specs.Parameters.{UVTheoryPars, State, new}
 use Rattle.uvtheory.specs.OneFluid.{OneFluid}
 
+-- of any values; `none` is read past the end
+module _ {X : Type 0} (none : X) where
+  abbrev pub rowOf : List X → ℕ → X
+  rowOf xs i = getD xs i none
+
+  abbrev pub matrixOf : ℕ → List X → ℕ → ℕ → X
+  matrixOf n xs i j = getD xs (i * n + j) none
+
+  -- what an array holds
+  abbrev pub RowOf : ℕ → List X → (ℕ → X) → Type 0
+  RowOf n xs f = (i : ℕ) → i < n → getD xs i none ≡ f i
+
+  abbrev pub MatrixOf : ℕ → List X → (ℕ → ℕ → X) → Type 0
+  MatrixOf n xs f = (k : ℕ) → k < n * n → getD xs k none ≡ f (k / n) (k % n)
+
+-- of doubles
 abbrev pub row : List Float → ℕ → Float
-row xs i = getD xs i nan
+row = rowOf nan
 
 abbrev pub matrix : ℕ → List Float → ℕ → ℕ → Float
-matrix n xs i j = getD xs (i * n + j) nan
+matrix = matrixOf nan
 
--- what an array holds
 abbrev pub Row : ℕ → List Float → (ℕ → Float) → Type 0
-Row n xs f = (i : ℕ) → i < n → getD xs i nan ≡ f i
+Row = RowOf nan
 
 abbrev pub Matrix : ℕ → List Float → (ℕ → ℕ → Float) → Type 0
-Matrix n xs f = (k : ℕ) → k < n * n → getD xs k nan ≡ f (k / n) (k % n)
+Matrix = MatrixOf nan
 
 -- the place of k_ij among those of i below j, row by row
 abbrev pub place : ℕ → ℕ → ℕ → ℕ

@@ -2,6 +2,7 @@
 use Prim.Native.Nat.{_≤_, _-_, _*_, _<_}
 use mathlib.Core.Path.{refl}
 use native.Mathlib.Omega.{arith}
+use lib.Ieee.{nan}
 use Rattle.arithmetic.specs.Doubles.{guarded}
 use Rattle.uvtheory.specs.Rows.{parameters}
 use Rattle.uvtheory.proofs.Loops.{row-of, column-of, pair-within, square-le, Filled, one-more, mirror, Bounds, square-fits}
@@ -11,10 +12,10 @@ use Rattle.uvtheory.proofs.parameters.combine.Tie as tie
 abbrev Inv-loop : tie.InvT-loop
 Inv-loop m n rep-ij₀ att-ij₀ sigma-ij₀ eps-k-ij₀ k₀ rep-ij att-ij sigma-ij eps-k-ij k =
     (k ≤ m .n * m .n)
-    × Filled (m .n) k rep-ij (parameters guarded m .rep-ij)
-    × Filled (m .n) k att-ij (parameters guarded m .att-ij)
-    × Filled (m .n) k sigma-ij (parameters guarded m .sigma-ij)
-    × Filled (m .n) k eps-k-ij (parameters guarded m .eps-k-ij)
+    × Filled nan (m .n) k rep-ij (parameters guarded m .rep-ij)
+    × Filled nan (m .n) k att-ij (parameters guarded m .att-ij)
+    × Filled nan (m .n) k sigma-ij (parameters guarded m .sigma-ij)
+    × Filled nan (m .n) k eps-k-ij (parameters guarded m .eps-k-ij)
 
 abbrev μ-loop : tie.MeasureT-loop
 μ-loop m n rep-ij₀ att-ij₀ sigma-ij₀ eps-k-ij₀ k₀ rep-ij att-ij sigma-ij eps-k-ij k = m .n * m .n - k
@@ -34,10 +35,10 @@ pair-at-requires c κs =
     let h : l .k < n * n = omega arith in (
       (row-of n (l .k) h, column-of n (l .k) h, c .before .before .pre),
       λ b. record {
-        rep-is = mirror (f .rep-ij) n (l .k) (l .rep-ij) h b (l .inv .1 .1);
-        att-is = mirror (f .att-ij) n (l .k) (l .att-ij) h b (l .inv .2 .1);
-        sigma-is = mirror (f .sigma-ij) n (l .k) (l .sigma-ij) h b (l .inv .3 .1);
-        epsilon-is = mirror (f .eps-k-ij) n (l .k) (l .eps-k-ij) h b (l .inv .4 .1);
+        rep-is = mirror nan (f .rep-ij) n (l .k) (l .rep-ij) h b (l .inv .1 .1);
+        att-is = mirror nan (f .att-ij) n (l .k) (l .att-ij) h b (l .inv .2 .1);
+        sigma-is = mirror nan (f .sigma-ij) n (l .k) (l .sigma-ij) h b (l .inv .3 .1);
+        epsilon-is = mirror nan (f .eps-k-ij) n (l .k) (l .eps-k-ij) h b (l .inv .4 .1);
       },
     )
 
@@ -49,10 +50,10 @@ loop-again c =
     let f = parameters guarded (c .before .before .before .args .m) in
     let p = c .pair-at .ensures in (
       omega arith,
-      one-more n (l .k) (l .rep-ij) (f .rep-ij) _ h (l .inv .1) (p .rep-is),
-      one-more n (l .k) (l .att-ij) (f .att-ij) _ h (l .inv .2) (p .att-is),
-      one-more n (l .k) (l .sigma-ij) (f .sigma-ij) _ h (l .inv .3) (p .sigma-is),
-      one-more n (l .k) (l .eps-k-ij) (f .eps-k-ij) _ h (l .inv .4) (p .epsilon-is),
+      one-more nan n (l .k) (l .rep-ij) (f .rep-ij) _ h (l .inv .1) (p .rep-is),
+      one-more nan n (l .k) (l .att-ij) (f .att-ij) _ h (l .inv .2) (p .att-is),
+      one-more nan n (l .k) (l .sigma-ij) (f .sigma-ij) _ h (l .inv .3) (p .sigma-is),
+      one-more nan n (l .k) (l .eps-k-ij) (f .eps-k-ij) _ h (l .inv .4) (p .epsilon-is),
     )
 
 returns : tie.Need-returns Inv-loop μ-loop

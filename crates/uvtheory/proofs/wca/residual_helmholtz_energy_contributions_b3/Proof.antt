@@ -1,4 +1,8 @@
 use mathlib.Core.Path.{_∙_}
+use lib.Ieee.{nan}
+use Rattle.arithmetic.specs.Root as Root
+use Rattle.arithmetic.specs.Doubles.{plain, guarded}
+use Rattle.uvtheory.specs.Rows.{state}
 use Rattle.uvtheory.proofs.Combined.{rep-symmetric, att-symmetric, epsilon-symmetric}
 use Rattle.uvtheory.proofs.Lengths.{lengths-are}
 use Rattle.uvtheory.proofs.Arrays.{hard-sphere-of}
@@ -10,7 +14,7 @@ returns c =
     let start = c .before .before .before .before .before .before .before .before .before .before .before .before in
     let r = c .before .before .before .before .before .before .before .before .before .component-lengths in
     record {
-      hard-sphere-is = c .before .before .before .helmholtz-energy-density .ensures ∙ hard-sphere-of (start .args .m .n) (start .args .s) (r .result .d) _ (r .ensures .d-are);
+      hard-sphere-is = c .before .before .before .helmholtz-energy-density .ensures ∙ hard-sphere-of plain Root.sqrt nan (start .args .m .n) (state guarded (start .args .s)) (r .result .d) _ (r .ensures .d-are);
       reference-is = c .before .before .helmholtz-energy-density2 .ensures;
       attractive-is = c .helmholtz-energy-density3 .ensures;
     }

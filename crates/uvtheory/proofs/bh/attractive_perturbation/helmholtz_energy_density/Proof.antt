@@ -5,7 +5,7 @@ use Rattle.uvtheory.specs.Rows.{row, parameters}
 use Rattle.uvtheory.specs.Bh.HardSphere.{diameter-bh}
 use Rattle.uvtheory.specs.Bh.AttractivePerturbation as F
 use Rattle.uvtheory.proofs.Combined.{rep-symmetric, att-symmetric, epsilon-symmetric}
-use Rattle.uvtheory.proofs.Arrays.{rep-at, att-at, epsilon-at, one-fluid-is, virial-sum-of}
+use Rattle.uvtheory.proofs.Arrays.{rep-at, att-at, epsilon-at, one-fluid-held, virial-sum-held}
 use Rattle.uvtheory.proofs.bh.attractive_perturbation.helmholtz_energy_density.Statement.{statement}
 use Rattle.uvtheory.proofs.bh.attractive_perturbation.helmholtz_energy_density.Tie as tie
 
@@ -20,8 +20,8 @@ returns c =
     let a = start .args .c in
     let held = start .pre .0 .1 in
     let x = row (s .molefracs) in
-    let one-fluid = one-fluid-is m a held x (start .args .d .now) (diameter-bh guarded (parameters guarded m) (s .temperature)) (start .pre .0 .2) in
-    let virial = virial-sum-of m a held x 3 (b2 .delta-b2-ij .result) (F.delta-b2-ij guarded (parameters guarded m) (s .temperature))
+    let one-fluid = one-fluid-held m a held x (start .args .d .now) (diameter-bh guarded (parameters guarded m) (s .temperature)) (start .pre .0 .2) in
+    let virial = virial-sum-held m a held x 3 (b2 .delta-b2-ij .result) (F.delta-b2-ij guarded (parameters guarded m) (s .temperature))
     (λ k l. b2 .delta-b2-ij .ensures k l ∙ rw (rep-at m a held k l, att-at m a held k l, epsilon-at m a held k l)) in
     c .energy .ensures ∙ rw (o .one-fluid-properties .ensures, one-fluid, c .before .mean-cube .ensures, c .before .before .before .before .virial-sum .ensures, virial, start .pre .1)
 

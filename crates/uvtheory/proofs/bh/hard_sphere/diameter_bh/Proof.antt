@@ -4,7 +4,7 @@ use mathlib.Core.Path.{_≡_, refl}
 use mathlib.Core.List.{List}
 use native.Mathlib.Omega.{arith}
 use lib.ListN.{length, length-set}
-use lib.Ieee.{Float}
+use lib.Ieee.{Float, nan}
 use Rattle.arithmetic.specs.Doubles.{guarded}
 use Rattle.uvtheory.specs.Literals as N
 use Rattle.uvtheory.specs.Rows.{row, Row}
@@ -38,7 +38,7 @@ bh-coefficients-requires c κs = c .before .before .inv-a76 .ensures
 loop-again : tie.Need-loop-again Inv-loop μ-loop
 loop-again c =
     let l = c .before .before .before .before .loop in
-    (omega arith, simp length-set (l .inv .1), row-set _ _ (l .i) (l .d) (omega arith) (l .inv .2) (simp (c .diameter-of .ensures, c .before .div .ensures, c .before .before .bh-coefficients .ensures)))
+    (omega arith, simp length-set (l .inv .1), row-set nan _ _ (l .i) (l .d) (omega arith) (l .inv .2) (simp (c .diameter-of .ensures, c .before .div .ensures, c .before .before .bh-coefficients .ensures)))
 
 returns : tie.Need-returns Inv-loop μ-loop
 unfolding F.diameter-bh

@@ -1,13 +1,13 @@
 use mathlib.Core.Path.{_∙_}
 use Prim.Native.Nat.{ℕ}
-use lib.Ieee.{Float}
+use lib.Ieee.{Float, nan}
 use Rattle.arithmetic.specs.Doubles.{guarded}
 use Rattle.uvtheory.specs.Rows.{row, parameters}
 use Rattle.uvtheory.specs.Wca.HardSphere.{rm-of, diameter-wca, dimensionless-diameter-q-wca}
 use Rattle.uvtheory.specs.Wca.AttractivePerturbation as F
 use Rattle.uvtheory.proofs.Combined.{rep-symmetric, att-symmetric, epsilon-symmetric}
 use Rattle.uvtheory.proofs.Lengths.{rm-symmetric, q-symmetric}
-use Rattle.uvtheory.proofs.Arrays.{matrix-at, rep-at, att-at, epsilon-at, one-fluid-is, virial-sum-of}
+use Rattle.uvtheory.proofs.Arrays.{matrix-at, rep-at, att-at, epsilon-at, one-fluid-held, virial-sum-held}
 use Rattle.uvtheory.proofs.wca.attractive_perturbation.helmholtz_energy_density.Statement.{statement}
 use Rattle.uvtheory.proofs.wca.attractive_perturbation.helmholtz_energy_density.Tie as tie
 
@@ -26,9 +26,9 @@ returns c =
     let x = row (s .molefracs) in
     let rm : ℕ → ℕ → Float = λ i j. rm-of guarded (p .rep-ij i j) (p .att-ij i j) in
     let q : ℕ → ℕ → Float = λ i j. dimensionless-diameter-q-wca guarded (guarded .div t (p .eps-k-ij i j)) (p .rep-ij i j) (p .att-ij i j) in
-    let one-fluid = one-fluid-is m a held x (start .args .d .now) (diameter-wca guarded p t) (start .pre .0 .3) in
-    let virial = virial-sum-of m a held x 3 (c .before .before .before .before .before .before .before .before .delta-b2-ij .result) (F.delta-b2-ij guarded p t)
-    (λ k l. c .before .before .before .before .before .before .before .before .delta-b2-ij .ensures k l ∙ rw (matrix-at n (start .args .l .q) q (lengths .q-are) k l, matrix-at n (start .args .l .rm) rm (lengths .rm-are) k l, rep-at m a held k l, att-at m a held k l, epsilon-at m a held k l)) in
+    let one-fluid = one-fluid-held m a held x (start .args .d .now) (diameter-wca guarded p t) (start .pre .0 .3) in
+    let virial = virial-sum-held m a held x 3 (c .before .before .before .before .before .before .before .before .delta-b2-ij .result) (F.delta-b2-ij guarded p t)
+    (λ k l. c .before .before .before .before .before .before .before .before .delta-b2-ij .ensures k l ∙ rw (matrix-at nan n (start .args .l .q) q (lengths .q-are) k l, matrix-at nan n (start .args .l .rm) rm (lengths .rm-are) k l, rep-at m a held k l, att-at m a held k l, epsilon-at m a held k l)) in
     c .energy .ensures ∙ rw (c .before .before .before .before .before .before .before .before .before .one-fluid-properties .ensures, one-fluid, c .before .mean-cube .ensures, c .before .before .before .before .virial-sum .ensures, virial, start .pre .1)
 
 pub helmholtz-energy-density-spec : {M : Type 1} → statement M

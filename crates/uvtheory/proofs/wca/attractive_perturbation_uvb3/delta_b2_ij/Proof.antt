@@ -3,7 +3,7 @@ use Prim.Native.Nat.{ℕ, _≤_, _<_, _-_, _*_}
 use mathlib.Core.Path.{refl, _∙_}
 use mathlib.Core.List.{List}
 use native.Mathlib.Omega.{arith}
-use lib.Ieee.{Float}
+use lib.Ieee.{Float, nan}
 use Rattle.arithmetic.specs.Doubles.{guarded}
 use Rattle.uvtheory.specs.Rows.{matrix}
 use Rattle.uvtheory.specs.Wca.AttractivePerturbationUvb3 as F
@@ -15,7 +15,7 @@ abbrev worked : ℕ → Float → List Float → List Float → List Float → L
 worked n t rep-ij eps-k-ij q rm i j = F.delta-b2-of guarded (guarded .div t (matrix n eps-k-ij i j)) (matrix n rep-ij i j) (matrix n q i j) (matrix n rm i j)
 
 abbrev Inv-loop : tie.InvT-loop
-Inv-loop n t rep-ij eps-k-ij q rm b2₀ k₀ b2 k = (k ≤ n * n) × Filled n k b2 (worked n t rep-ij eps-k-ij q rm)
+Inv-loop n t rep-ij eps-k-ij q rm b2₀ k₀ b2 k = (k ≤ n * n) × Filled nan n k b2 (worked n t rep-ij eps-k-ij q rm)
 
 abbrev μ-loop : tie.MeasureT-loop
 μ-loop n t rep-ij eps-k-ij q rm b2₀ k₀ b2 k = n * n - k
@@ -33,7 +33,7 @@ delta-b2-at-requires c κs b =
     let start = c .before .before .before .before .before .before in
     let n = start .args .n in
     let h : l .k < n * n = omega arith in
-    mirror (worked n (start .args .t) (start .args .c .«rep_ij») (start .args .c .«eps_k_ij») (start .args .l .q) (start .args .l .rm)) n (l .k) (l .b2) h b (l .inv .1 .1) ∙ rw (start .pre .1 (l .k) h b, start .pre .2 (l .k) h b, start .pre .3 (l .k) h b, start .pre .4 (l .k) h b)
+    mirror nan (worked n (start .args .t) (start .args .c .«rep_ij») (start .args .c .«eps_k_ij») (start .args .l .q) (start .args .l .rm)) n (l .k) (l .b2) h b (l .inv .1 .1) ∙ rw (start .pre .1 (l .k) h b, start .pre .2 (l .k) h b, start .pre .3 (l .k) h b, start .pre .4 (l .k) h b)
 
 loop-again : tie.Need-loop-again Inv-loop μ-loop
 loop-again c =
@@ -42,7 +42,7 @@ loop-again c =
     let n = start .args .n in
     let h : l .k < n * n = omega arith in (
       omega arith,
-      one-more n (l .k) (l .b2) (worked n (start .args .t) (start .args .c .«rep_ij») (start .args .c .«eps_k_ij») (start .args .l .q) (start .args .l .rm)) _ (omega (arith, square-le n (start .pre .0))) (l .inv .1) (c .delta-b2-at .ensures ∙ rw (at-pair n (l .k))),
+      one-more nan n (l .k) (l .b2) (worked n (start .args .t) (start .args .c .«rep_ij») (start .args .c .«eps_k_ij») (start .args .l .q) (start .args .l .rm)) _ (omega (arith, square-le n (start .pre .0))) (l .inv .1) (c .delta-b2-at .ensures ∙ rw (at-pair n (l .k))),
     )
 
 returns : tie.Need-returns Inv-loop μ-loop

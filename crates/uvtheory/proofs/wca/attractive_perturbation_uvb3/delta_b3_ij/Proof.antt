@@ -3,7 +3,7 @@ use Prim.Native.Nat.{ℕ, _≤_, _<_, _-_, _*_}
 use mathlib.Core.Path.{refl, _∙_}
 use mathlib.Core.List.{List}
 use native.Mathlib.Omega.{arith}
-use lib.Ieee.{Float}
+use lib.Ieee.{Float, nan}
 use Rattle.arithmetic.specs.Doubles.{guarded}
 use Rattle.uvtheory.specs.Rows.{row, matrix}
 use Rattle.uvtheory.specs.Literals as N
@@ -18,7 +18,7 @@ worked n t d sigma rep-ij eps-k-ij q rm i j =
     (guarded .mul (guarded .add (guarded .div (row d i) (row sigma i)) (guarded .div (row d j) (row sigma j))) N.half) (matrix n q i j)
 
 abbrev Inv-loop : tie.InvT-loop
-Inv-loop n t d sigma rep-ij eps-k-ij q rm b3₀ k₀ b3 k = (k ≤ n * n) × Filled n k b3 (worked n t d sigma rep-ij eps-k-ij q rm)
+Inv-loop n t d sigma rep-ij eps-k-ij q rm b3₀ k₀ b3 k = (k ≤ n * n) × Filled nan n k b3 (worked n t d sigma rep-ij eps-k-ij q rm)
 
 abbrev μ-loop : tie.MeasureT-loop
 μ-loop n t d sigma rep-ij eps-k-ij q rm b3₀ k₀ b3 k = n * n - k
@@ -37,7 +37,7 @@ loop-again c =
     let n = start .args .n in
     let h : l .k < n * n = omega arith in (
       omega arith,
-      one-more n (l .k) (l .b3) (worked n (start .args .t) (start .args .d .now) (start .args .sigma .now) (start .args .c .«rep_ij») (start .args .c .«eps_k_ij») (start .args .l .q) (start .args .l .rm)) _ (omega (arith, square-le n (start .pre))) (l .inv .1) (c .delta-b3-at .ensures ∙ rw (at-pair n (l .k))),
+      one-more nan n (l .k) (l .b3) (worked n (start .args .t) (start .args .d .now) (start .args .sigma .now) (start .args .c .«rep_ij») (start .args .c .«eps_k_ij») (start .args .l .q) (start .args .l .rm)) _ (omega (arith, square-le n (start .pre))) (l .inv .1) (c .delta-b3-at .ensures ∙ rw (at-pair n (l .k))),
     )
 
 returns : tie.Need-returns Inv-loop μ-loop

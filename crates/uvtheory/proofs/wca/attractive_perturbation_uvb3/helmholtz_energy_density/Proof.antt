@@ -1,6 +1,6 @@
 use mathlib.Core.Path.{_∙_}
 use Prim.Native.Nat.{ℕ, _/_, _%_}
-use lib.Ieee.{Float}
+use lib.Ieee.{Float, nan}
 use Rattle.arithmetic.specs.Doubles.{guarded}
 use Rattle.uvtheory.specs.Rows.{row, parameters}
 use Rattle.uvtheory.specs.Wca.HardSphere.{rm-of, diameter-wca, dimensionless-diameter-q-wca}
@@ -8,7 +8,7 @@ use Rattle.uvtheory.specs.Wca.AttractivePerturbationUvb3 as F
 use Rattle.uvtheory.proofs.Loops.{row-of, column-of}
 use Rattle.uvtheory.proofs.Combined.{rep-symmetric, epsilon-symmetric}
 use Rattle.uvtheory.proofs.Lengths.{rm-symmetric, q-symmetric}
-use Rattle.uvtheory.proofs.Arrays.{matrix-at, rep-at, epsilon-at, one-fluid-is, virial-sum-of}
+use Rattle.uvtheory.proofs.Arrays.{matrix-at, rep-at, epsilon-at, one-fluid-held, virial-sum-held}
 use Rattle.uvtheory.proofs.wca.attractive_perturbation_uvb3.helmholtz_energy_density.Statement.{statement}
 use Rattle.uvtheory.proofs.wca.attractive_perturbation_uvb3.helmholtz_energy_density.Tie as tie
 
@@ -27,13 +27,13 @@ returns c =
     let x = row (s .molefracs) in
     let rm : ℕ → ℕ → Float = λ i j. rm-of guarded (p .rep-ij i j) (p .att-ij i j) in
     let q : ℕ → ℕ → Float = λ i j. dimensionless-diameter-q-wca guarded (guarded .div t (p .eps-k-ij i j)) (p .rep-ij i j) (p .att-ij i j) in
-    let one-fluid = one-fluid-is m a held x (start .args .d .now) (diameter-wca guarded p t) (start .pre .0 .3) in
-    let virial = virial-sum-of m a held x 3 (c .before .before .before .before .before .before .before .before .before .before .before .before .before .before .delta-b2-ij .result) (F.delta-b2-ij guarded p t)
-    (λ k l. c .before .before .before .before .before .before .before .before .before .before .before .before .before .before .delta-b2-ij .ensures k l ∙ rw (matrix-at n (start .args .l .q) q (lengths .q-are) k l, matrix-at n (start .args .l .rm) rm (lengths .rm-are) k l, rep-at m a held k l, epsilon-at m a held k l)) in
-    let third = virial-sum-of m a held x 6 (c .before .before .before .before .before .before .before .before .delta-b3-ij .result) (F.delta-b3-ij guarded p t (diameter-wca guarded p t))
+    let one-fluid = one-fluid-held m a held x (start .args .d .now) (diameter-wca guarded p t) (start .pre .0 .3) in
+    let virial = virial-sum-held m a held x 3 (c .before .before .before .before .before .before .before .before .before .before .before .before .before .before .delta-b2-ij .result) (F.delta-b2-ij guarded p t)
+    (λ k l. c .before .before .before .before .before .before .before .before .before .before .before .before .before .before .delta-b2-ij .ensures k l ∙ rw (matrix-at nan n (start .args .l .q) q (lengths .q-are) k l, matrix-at nan n (start .args .l .rm) rm (lengths .rm-are) k l, rep-at m a held k l, epsilon-at m a held k l)) in
+    let third = virial-sum-held m a held x 6 (c .before .before .before .before .before .before .before .before .delta-b3-ij .result) (F.delta-b3-ij guarded p t (diameter-wca guarded p t))
     (λ k l. c .before .before .before .before .before .before .before .before .delta-b3-ij .ensures k l ∙ rw (
-      matrix-at n (start .args .l .q) q (lengths .q-are) k l,
-      matrix-at n (start .args .l .rm) rm (lengths .rm-are) k l,
+      matrix-at nan n (start .args .l .q) q (lengths .q-are) k l,
+      matrix-at nan n (start .args .l .rm) rm (lengths .rm-are) k l,
       rep-at m a held k l,
       epsilon-at m a held k l,
       start .pre .0 .3 (k / n) (row-of n k l),

@@ -4,7 +4,7 @@ use mathlib.Core.Path.{_≡_, refl}
 use mathlib.Core.List.{List}
 use native.Mathlib.Omega.{arith}
 use lib.ListN.{length, length-set}
-use lib.Ieee.{Float}
+use lib.Ieee.{Float, nan}
 use Rattle.arithmetic.specs.Doubles.{guarded}
 use Rattle.uvtheory.specs.Rows.{row, Row}
 use Rattle.uvtheory.specs.Wca.HardSphere as F
@@ -52,9 +52,9 @@ loop-again c =
       simp length-set (l .inv .1),
       simp length-set (l .inv .2),
       simp length-set (l .inv .3),
-      row-set _ _ (l .i) (l .rms) (omega arith) (l .inv .4) (simp rm),
-      row-set _ _ (l .i) (l .ds) (omega arith) (l .inv .5) (simp (d, q, rm)),
-      row-set _ _ (l .i) (l .lengths) (omega arith) (l .inv .6) (simp (d, q, rm)),
+      row-set nan _ _ (l .i) (l .rms) (omega arith) (l .inv .4) (simp rm),
+      row-set nan _ _ (l .i) (l .ds) (omega arith) (l .inv .5) (simp (d, q, rm)),
+      row-set nan _ _ (l .i) (l .lengths) (omega arith) (l .inv .6) (simp (d, q, rm)),
     )
 
 returns : tie.Need-returns Inv-loop μ-loop

@@ -3,7 +3,7 @@ use Prim.Native.Nat.{ℕ, _≤_, _<_, _-_, _*_}
 use mathlib.Core.Path.{refl, _∙_}
 use mathlib.Core.List.{List}
 use native.Mathlib.Omega.{arith}
-use lib.Ieee.{Float}
+use lib.Ieee.{Float, nan}
 use Rattle.arithmetic.specs.Doubles.{guarded}
 use Rattle.uvtheory.specs.Rows.{matrix}
 use Rattle.uvtheory.specs.Wca.HardSphere as F
@@ -18,7 +18,7 @@ abbrev diameter : ℕ → Float → List Float → List Float → List Float →
 diameter n t rep-ij att-ij eps-k-ij i j = F.dimensionless-diameter-q-wca guarded (guarded .div t (matrix n eps-k-ij i j)) (matrix n rep-ij i j) (matrix n att-ij i j)
 
 abbrev Inv-loop : tie.InvT-loop
-Inv-loop n t rep-ij att-ij eps-k-ij rm₀ q₀ k₀ rm q k = (k ≤ n * n) × Filled n k rm (minimum n t rep-ij att-ij eps-k-ij) × Filled n k q (diameter n t rep-ij att-ij eps-k-ij)
+Inv-loop n t rep-ij att-ij eps-k-ij rm₀ q₀ k₀ rm q k = (k ≤ n * n) × Filled nan n k rm (minimum n t rep-ij att-ij eps-k-ij) × Filled nan n k q (diameter n t rep-ij att-ij eps-k-ij)
 
 abbrev μ-loop : tie.MeasureT-loop
 μ-loop n t rep-ij att-ij eps-k-ij rm₀ q₀ k₀ rm q k = n * n - k
@@ -36,8 +36,8 @@ pair-lengths-at-requires c κs b =
     let start = c .before .before .before .before .before in
     let n = start .args .n in
     let h : l .k < n * n = omega arith in (
-      mirror (minimum n (start .args .t) (start .args .c .«rep_ij») (start .args .c .«att_ij») (start .args .c .«eps_k_ij»)) n (l .k) (l .rm) h b (l .inv .1 .1) ∙ rw (start .pre .1 (l .k) h b, start .pre .2 (l .k) h b),
-      mirror (diameter n (start .args .t) (start .args .c .«rep_ij») (start .args .c .«att_ij») (start .args .c .«eps_k_ij»)) n (l .k) (l .q) h b (l .inv .2 .1) ∙ rw (start .pre .1 (l .k) h b, start .pre .2 (l .k) h b, start .pre .3 (l .k) h b),
+      mirror nan (minimum n (start .args .t) (start .args .c .«rep_ij») (start .args .c .«att_ij») (start .args .c .«eps_k_ij»)) n (l .k) (l .rm) h b (l .inv .1 .1) ∙ rw (start .pre .1 (l .k) h b, start .pre .2 (l .k) h b),
+      mirror nan (diameter n (start .args .t) (start .args .c .«rep_ij») (start .args .c .«att_ij») (start .args .c .«eps_k_ij»)) n (l .k) (l .q) h b (l .inv .2 .1) ∙ rw (start .pre .1 (l .k) h b, start .pre .2 (l .k) h b, start .pre .3 (l .k) h b),
     )
 
 loop-again : tie.Need-loop-again Inv-loop μ-loop
@@ -47,8 +47,8 @@ loop-again c =
     let n = start .args .n in
     let h : l .k < n * n = omega arith in (
       omega arith,
-      one-more n (l .k) (l .rm) (minimum n (start .args .t) (start .args .c .«rep_ij») (start .args .c .«att_ij») (start .args .c .«eps_k_ij»)) _ (omega (arith, square-le n (start .pre .0))) (l .inv .1) (c .pair-lengths-at .ensures .0 ∙ rw (at-pair n (l .k))),
-      one-more n (l .k) (l .q) (diameter n (start .args .t) (start .args .c .«rep_ij») (start .args .c .«att_ij») (start .args .c .«eps_k_ij»)) _ (omega (arith, square-le n (start .pre .0))) (l .inv .2) (c .pair-lengths-at .ensures .1 ∙ rw (at-pair n (l .k))),
+      one-more nan n (l .k) (l .rm) (minimum n (start .args .t) (start .args .c .«rep_ij») (start .args .c .«att_ij») (start .args .c .«eps_k_ij»)) _ (omega (arith, square-le n (start .pre .0))) (l .inv .1) (c .pair-lengths-at .ensures .0 ∙ rw (at-pair n (l .k))),
+      one-more nan n (l .k) (l .q) (diameter n (start .args .t) (start .args .c .«rep_ij») (start .args .c .«att_ij») (start .args .c .«eps_k_ij»)) _ (omega (arith, square-le n (start .pre .0))) (l .inv .2) (c .pair-lengths-at .ensures .1 ∙ rw (at-pair n (l .k))),
     )
 
 returns : tie.Need-returns Inv-loop μ-loop

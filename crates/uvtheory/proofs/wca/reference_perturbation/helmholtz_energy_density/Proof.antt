@@ -1,7 +1,8 @@
 use mathlib.Core.Path.{_∙_}
 use Prim.Native.Nat.{ℕ, _*_, _/_, _%_}
-use lib.Ieee.{Float}
-use Rattle.arithmetic.specs.Doubles.{guarded}
+use lib.Ieee.{Float, nan}
+use Rattle.arithmetic.specs.Root as Root
+use Rattle.arithmetic.specs.Doubles.{plain, guarded}
 use Rattle.uvtheory.specs.Tables.{table}
 use Rattle.uvtheory.specs.Rows.{row, matrix, parameters}
 use Rattle.uvtheory.specs.PackingFraction as P
@@ -32,14 +33,14 @@ returns c =
     let eta = P.packing-fraction guarded n (row (s .«partial_density»)) d in
     let ta = table (start .args .ta) in
     let tb = table (start .args .tb) in
-    let pairs = sum-ext (n * n)
+    let pairs = sum-ext plain Root.sqrt (n * n)
     (λ k. F.term-ij guarded ta tb x (row (r .rm)) (row (r .d)) (row (r .length)) (matrix n (start .args .l .q)) (matrix n (a .«sigma_ij»)) (matrix n (a .«rep_ij»)) eta (k / n) (k % n))
     (λ k. F.term-ij guarded ta tb x rm d length q (p .sigma-ij) (p .rep-ij) eta (k / n) (k % n))
     (λ k l.
     let i = row-of n k l in
     let j = column-of n k l in
     rw (
-      matrix-at n (start .args .l .q) q (start .pre .0 .3 .q-are) k l,
+      matrix-at nan n (start .args .l .q) q (start .pre .0 .3 .q-are) k l,
       sigma-at m a held k l,
       rep-at m a held k l,
       rows .rm-are (k / n) i,
@@ -49,7 +50,7 @@ returns c =
       rows .length-are (k / n) i,
       rows .length-are (k % n) j,
     )) in
-    c .energy .ensures ∙ rw (c .before .pair-sum .ensures, c .before .before .before .before .before .before .before .before .before .packing-fraction .ensures, packing-fraction-of n (row (s .«partial_density»)) (r .d) d (rows .d-are), pairs, start .pre .1)
+    c .energy .ensures ∙ rw (c .before .pair-sum .ensures, c .before .before .before .before .before .before .before .before .before .packing-fraction .ensures, packing-fraction-of plain Root.sqrt nan n (row (s .«partial_density»)) (r .d) d (rows .d-are), pairs, start .pre .1)
 
 pub helmholtz-energy-density-spec : {M : Type 1} → statement M
 helmholtz-energy-density-spec = tie.close (tie.spec (λ c κs. c .before .before .before .before .before .before .before .before .before .before .pre .0 .0) (λ c κs. c .before .before .before .before .before .before .before .before .before .before .before .before .before .before .before .before .before .before .pre .0 .0) (λ c κs. tt) returns)

@@ -2,7 +2,8 @@ use Prim.Native.Nat.{_≤_, _-_, _*_, _/_, _%_}
 use mathlib.Core.Path.{_≡_, refl}
 use native.Mathlib.Omega.{arith}
 use Rattle.arithmetic.specs.Arithmetic.{sumBy}
-use Rattle.arithmetic.specs.Doubles.{guarded}
+use Rattle.arithmetic.specs.Root as Root
+use Rattle.arithmetic.specs.Doubles.{plain, guarded}
 use Rattle.uvtheory.specs.Tables.{table}
 use Rattle.uvtheory.specs.Rows.{row, matrix}
 use Rattle.uvtheory.specs.Wca.ReferencePerturbation as F
@@ -27,7 +28,7 @@ loop-holds c = (omega arith, refl)
 loop-again : tie.Need-loop-again Inv-loop μ-loop
 loop-again c = (
   omega arith,
-  rw (c .before .before .before .before .before .before .before .loop .inv .1, sum-step, c .term-of .ensures, c .before .before .before .before .component-of2 .ensures, c .before .before .before .before .before .component-of .ensures, at-pair),
+  rw (c .before .before .before .before .before .before .before .loop .inv .1, sum-step plain Root.sqrt, c .term-of .ensures, c .before .before .before .before .component-of2 .ensures, c .before .before .before .before .before .component-of .ensures, at-pair),
 )
 
 returns : tie.Need-returns Inv-loop μ-loop
