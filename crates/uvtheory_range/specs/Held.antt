@@ -1,12 +1,12 @@
 -- What the code holds, by the formulas in ranges: the combined values of one pair and of all, and the ends of the three energies.
-use Prim.Native.Nat.{ℕ, _+_, _*_, _/_, _%_, _<_}
+use Prim.Native.Nat.{ℕ}
 use mathlib.Core.Path.{_≡_}
 use mathlib.Core.List.{List}
-use lib.ListN.{getD}
 use Rattle.range.specs.declared.basic.Range.{Range}
 use Rattle.range.specs.Rules.{failed, ranges}
 use Rattle.uvtheory.specs.declared.parameters.Mixture.{Mixture}
 use Rattle.uvtheory.specs.Contributions.{Contributions}
+use Rattle.uvtheory.specs.Held.{SymmetricOf}
 use Rattle.uvtheory.specs.Rows.{parameters}
 use Rattle.uvtheory_range.specs.declared.parameters.Pair.{Pair}
 use Rattle.uvtheory_range.specs.declared.parameters.Combined.{Combined}
@@ -27,7 +27,7 @@ pub record CombinedOf (m : Mixture) (c : Combined) : Type 0 where
 
 -- below the diagonal stands what stands above it
 abbrev pub Symmetric : ℕ → List Range → Type 0
-Symmetric n xs = (k : ℕ) → k < n * n → k % n < k / n → getD xs (k % n * n + k / n) failed ≡ getD xs k failed
+Symmetric = SymmetricOf failed
 
 -- the ends of the three energies, as the code holds them
 pub record ContributionsOf (held : Held) (c : Contributions Range) : Type 0 where

@@ -1,31 +1,29 @@
 -- Arrays of the code as the functions that the formulas take, in ranges.
-use Prim.Native.Nat.{ℕ, _+_, _*_, _/_, _%_, _<_}
-use mathlib.Core.Path.{_≡_}
+use Prim.Native.Nat.{ℕ}
 use mathlib.Core.List.{List}
-use lib.ListN.{getD}
 use lib.Ieee.{Float}
 use Rattle.range.specs.declared.basic.Range.{Range}
 use Rattle.range.specs.Rules.{failed, ranges}
 use Rattle.uvtheory.specs.OneFluid.{OneFluid}
-use Rattle.uvtheory.specs.Rows as Doubles
+use Rattle.uvtheory.specs.Rows as Arrays
 use Rattle.uvtheory_range.specs.declared.one_fluid.OneFluid.{OneFluid as Held}
 
 -- doubles as sent
 abbrev pub points : List Float → ℕ → Range
-points xs i = ranges .constant (Doubles.row xs i)
+points xs i = ranges .constant (Arrays.row xs i)
 
 abbrev pub row : List Range → ℕ → Range
-row xs i = getD xs i failed
+row = Arrays.rowOf failed
 
 abbrev pub matrix : ℕ → List Range → ℕ → ℕ → Range
-matrix n xs i j = getD xs (i * n + j) failed
+matrix = Arrays.matrixOf failed
 
 -- what an array holds
 abbrev pub Row : ℕ → List Range → (ℕ → Range) → Type 0
-Row n xs f = (i : ℕ) → i < n → getD xs i failed ≡ f i
+Row = Arrays.RowOf failed
 
 abbrev pub Matrix : ℕ → List Range → (ℕ → ℕ → Range) → Type 0
-Matrix n xs f = (k : ℕ) → k < n * n → getD xs k failed ≡ f (k / n) (k % n)
+Matrix = Arrays.MatrixOf failed
 
 -- the properties of the one fluid, as the code holds them
 abbrev pub fluid : Held → OneFluid Range
