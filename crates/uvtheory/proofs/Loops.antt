@@ -50,14 +50,15 @@ pair-column n i j h = let e = at-pair n (i * n + j) in let q = pair-row n i j h 
 mirrored : (n k : ℕ) → k % n < n → k % n < k / n → k / n < n → k % n * n + k / n < k
 mirrored n k c h r = let z : suc (k % n) * n ≤ k / n * n = mul-le-mul h (le-refl n) in omega (arith, suc-mul (k % n) n, z, at-pair n k)
 
--- ---- what an access asks. The loops answer by these facts, since `omega` would work each anew.
+-- ---- what an access asks, of doubles and of pairs of them. The loops answer by these facts, since `omega` would work each anew.
 pub record At (size i : ℕ) : Type 0 where
   pub below : i < size
   pub fits : Fits w64 (i * 8)
+  pub wide : Fits w64 (i * 16)
   pub next : Fits w64 (i + 1)
 
 pub at : (size i : ℕ) → size ≤ 64 → i < size → At size i
-at size i h l = record { below = l; fits = omega arith; next = omega arith }
+at size i h l = record { below = l; fits = omega arith; wide = omega arith; next = omega arith }
 
 -- of the i-th of n components, and that fewer are left after it
 pub record InRow (n i : ℕ) : Type 0 where
