@@ -1,9 +1,42 @@
 // hard_sphere/mod.rs, MonomerShape::Spherical, on ranges: the hard-sphere term.
 use range::basic::Range;
 use uvtheory::consts::FRAC_PI_6;
+use uvtheory::parameters::State;
 ghost use mathlib.Core.Path.{_≡_};
+ghost use Prim.Native.Nat.{_≤_};
 ghost use Rattle.range.specs.Rules.{ranges};
 ghost use Rattle.uvtheory.specs.HardSphere as F;
+ghost use Rattle.uvtheory.specs.Rows.{state};
+ghost use Rattle.uvtheory_range.specs.Rows.{points, row};
+
+// The zeta of the fractions with the diameters to the k.
+pub fn weighted_zeta(n: usize, diameter: [Range; 8], weights: &[f64; 8], k: u64) -> Range
+    requires { ⌜ n ≤ 8 ⌝ }
+    ensures { λ r. ⌜ r ≡ F.weighted-zeta ranges n (row diameter) (points (now (weights .entry))) k ⌝ }
+{
+    let mut z = Range::ZERO;
+    let mut i = 0;
+    while i < n {
+        let w = Range::point(weights[i]).mul(diameter[i].powi(k));
+        z = z.add(w.mul(Range::point(FRAC_PI_6)));
+        i += 1;
+    }
+    z
+}
+
+// The vector sum of points.
+pub fn sum(n: usize, x: &[f64; 8]) -> Range
+    requires { ⌜ n ≤ 8 ⌝ }
+    ensures { λ r. ⌜ r ≡ ranges .sum n (points (now (x .entry))) ⌝ }
+{
+    let mut s = Range::ZERO;
+    let mut i = 0;
+    while i < n {
+        s = s.add(Range::point(x[i]));
+        i += 1;
+    }
+    s
+}
 
 // The term of Boublik and Mansoori et al., by the zeta of the fractions and the density.
 pub fn bmcsl(z0: Range, z1: Range, z2: Range, z3: Range, density: Range) -> Range
@@ -22,4 +55,22 @@ pub fn bmcsl(z0: Range, z1: Range, z2: Range, z3: Range, density: Range) -> Rang
         .sub(zeta0)
         .mul(zeta3.neg().ln_1p());
     a.add(b).add(c).div(Range::point(FRAC_PI_6))
+}
+
+// By the diameters and the density.
+pub fn helmholtz_energy_density(
+    n: usize,
+    diameter: [Range; 8],
+    s: State,
+    density: Range,
+) -> Range
+    requires { ⌜ (n ≤ 8) × (density ≡ ranges .sum n (points (s .«partial_density»))) ⌝ }
+    ensures { λ r. ⌜ r ≡ F.helmholtz-energy-density ranges n (row diameter) (state ranges s) ⌝ }
+{
+    let x = s.molefracs;
+    let z0 = weighted_zeta(n, diameter, &x, 0);
+    let z1 = weighted_zeta(n, diameter, &x, 1);
+    let z2 = weighted_zeta(n, diameter, &x, 2);
+    let z3 = weighted_zeta(n, diameter, &x, 3);
+    bmcsl(z0, z1, z2, z3, density)
 }

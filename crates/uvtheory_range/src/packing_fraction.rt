@@ -1,11 +1,28 @@
 // The packing fractions, which bh/hard_sphere.rs and wca/hard_sphere.rs have word for word but for tau and the tables.
 use range::basic::Range;
+use uvtheory::consts::PI;
 ghost use mathlib.Core.Path.{_≡_};
+ghost use Prim.Native.Nat.{_≤_};
 ghost use Rattle.range.specs.Rules.{ranges};
 ghost use Rattle.uvtheory.specs.Rows as Doubles;
 ghost use Rattle.uvtheory.specs.Tables.{table};
 ghost use Rattle.uvtheory.specs.PackingFraction as F;
-ghost use Rattle.uvtheory_range.specs.Rows.{row};
+ghost use Rattle.uvtheory_range.specs.Rows.{points, row};
+
+pub fn packing_fraction(n: usize, partial_density: &[f64; 8], diameter: [Range; 8]) -> Range
+    requires { ⌜ n ≤ 8 ⌝ }
+    ensures { λ r. ⌜ r ≡ F.packing-fraction ranges n (points (now («partial_density» .entry))) (row diameter) ⌝ }
+{
+    let c = Range::point(PI).div(Range::point(6.0));
+    let mut eta = Range::ZERO;
+    let mut i = 0;
+    while i < n {
+        let rho = Range::point(partial_density[i]);
+        eta = eta.add(rho.mul(diameter[i].powi(3)).mul(c));
+        i += 1;
+    }
+    eta
+}
 
 // A coefficient by its row of ..ETA_B.
 fn coefficient_b(b: [f64; 2], tau: Range) -> Range

@@ -10,7 +10,7 @@ ghost use Rattle.range.specs.Rules.{ranges};
 ghost use Rattle.uvtheory.specs.Literals as N;
 ghost use Rattle.uvtheory.specs.Parameters as F;
 ghost use Rattle.uvtheory.specs.Rows as Doubles;
-ghost use Rattle.uvtheory_range.specs.Held.{PairOf};
+ghost use Rattle.uvtheory_range.specs.Held.{PairOf, CombinedOf};
 
 // The combined values of a pair.
 pub struct Pair {
@@ -147,5 +147,45 @@ fn pair_at(m: Mixture, i: usize, j: usize, worked: Pair) -> Pair
         att: Range::point(att[i]),
         sigma: Range::point(sigma[i]),
         epsilon_k: Range::point(epsilon_k[i]),
+    }
+}
+
+// UVTheoryPars::new: each pair is worked once, for i below j, and copied.
+pub fn combine(m: Mixture) -> Combined
+    requires { ⌜ m .n ≤ 8 ⌝ }
+    ensures { λ r. ⌜ CombinedOf m r ⌝ }
+{
+    let n = m.n;
+    let mut rep_ij = [Range::ZERO; 64];
+    let mut att_ij = [Range::ZERO; 64];
+    let mut sigma_ij = [Range::ZERO; 64];
+    let mut eps_k_ij = [Range::ZERO; 64];
+    let mut k = 0;
+    while k < n * n {
+        let i = k / n;
+        let j = k % n;
+        let t = j * n + i;
+        let worked = Pair {
+            rep: rep_ij[t],
+            att: att_ij[t],
+            sigma: sigma_ij[t],
+            epsilon_k: eps_k_ij[t],
+        };
+        let p = pair_at(m, i, j, worked);
+        let rep = p.rep;
+        let att = p.att;
+        let sigma = p.sigma;
+        let epsilon_k = p.epsilon_k;
+        rep_ij[k] = rep;
+        att_ij[k] = att;
+        sigma_ij[k] = sigma;
+        eps_k_ij[k] = epsilon_k;
+        k += 1;
+    }
+    Combined {
+        rep_ij,
+        att_ij,
+        sigma_ij,
+        eps_k_ij,
     }
 }

@@ -1,5 +1,10 @@
 // uvtheory/eos/bh/attractive_perturbation.rs on ranges: the attractive perturbation by Barker-Henderson.
 use crate::one_fluid::OneFluid;
+use crate::one_fluid::mean_cube;
+use crate::one_fluid::one_fluid_properties;
+use crate::one_fluid::points_of;
+use crate::one_fluid::virial_sum;
+use crate::parameters::Combined;
 use crate::parameters::mean_field_of;
 use crate::parameters::mie_prefactor;
 use range::basic::Range;
@@ -8,12 +13,17 @@ use uvtheory::bh::attractive_perturbation::C2;
 use uvtheory::bh::attractive_perturbation::CU_BH;
 use uvtheory::consts::FRAC_PI_3;
 use uvtheory::consts::PI;
+use uvtheory::parameters::Mixture;
+use uvtheory::parameters::State;
 ghost use mathlib.Core.Path.{_≡_};
-ghost use Prim.Native.Nat.{_<_};
+ghost use Prim.Native.Nat.{_≤_, _<_};
 ghost use Rattle.range.specs.Rules.{ranges};
 ghost use Rattle.uvtheory.specs.Rows as Doubles;
+ghost use Rattle.uvtheory.specs.Rows.{parameters, state};
+ghost use Rattle.uvtheory.specs.Bh.HardSphere.{diameter-bh};
 ghost use Rattle.uvtheory.specs.Bh.AttractivePerturbation as F;
-ghost use Rattle.uvtheory_range.specs.Rows.{fluid};
+ghost use Rattle.uvtheory_range.specs.Rows.{points, matrix, fluid, Row, Matrix};
+ghost use Rattle.uvtheory_range.specs.Held.{CombinedOf, Symmetric};
 
 fn delta_b12u(t_x: Range, mean_field_constant_x: Range, weighted_sigma3_ij: Range) -> Range
     ensures { λ r. ⌜ r ≡ F.delta-b12u ranges «t_x» «mean_field_constant_x» «weighted_sigma3_ij» ⌝ }
@@ -223,4 +233,48 @@ fn delta_b2_at(
         return worked;
     }
     delta_b2(t.div(eps_k), rep, att)
+}
+
+// Of all pairs: each is worked once, for i up to j, and copied.
+fn delta_b2_ij(n: usize, c: Combined, t: Range) -> [Range; 64]
+    requires { ⌜ (n ≤ 8) × Symmetric n (c .«rep_ij») × Symmetric n (c .«att_ij») × Symmetric n (c .«eps_k_ij») ⌝ }
+    ensures { λ r. ⌜ Matrix n r (λ i j. F.delta-b2 ranges (ranges .div t (matrix n (c .«eps_k_ij») i j)) (matrix n (c .«rep_ij») i j) (matrix n (c .«att_ij») i j)) ⌝ }
+{
+    let rep_ij = c.rep_ij;
+    let att_ij = c.att_ij;
+    let eps_k_ij = c.eps_k_ij;
+    let mut b2 = [Range::ZERO; 64];
+    let mut k = 0;
+    while k < n * n {
+        let i = k / n;
+        let j = k % n;
+        b2[k] = delta_b2_at(i, j, t, eps_k_ij[k], rep_ij[k], att_ij[k], b2[j * n + i]);
+        k += 1;
+    }
+    b2
+}
+
+// By the combined values c, the diameters d and the density.
+pub fn helmholtz_energy_density(
+    m: Mixture,
+    s: State,
+    c: Combined,
+    d: [Range; 8],
+    density: Range,
+) -> Range
+    requires { ⌜ (m .n ≤ 8) × CombinedOf m c × Row (m .n) d (diameter-bh ranges (parameters ranges m) (ranges .constant (s .temperature))) ⌝ }
+    requires { ⌜ density ≡ ranges .sum (m .n) (points (s .«partial_density»)) ⌝ }
+    ensures { λ r. ⌜ r ≡ F.helmholtz-energy-density ranges (parameters ranges m) (state ranges s) ⌝ }
+{
+    let n = m.n;
+    let t = Range::point(s.temperature);
+    let x = s.molefracs;
+    let sent = m.sigma;
+    let sigma_ij = c.sigma_ij;
+    let sigma = points_of(n, &sent);
+    let o = one_fluid_properties(n, c, sigma, &x, d);
+    let b2 = delta_b2_ij(n, c, t);
+    let b2bar = virial_sum(n, &x, sigma_ij, 3, b2);
+    let rho = density.mul(mean_cube(n, &x, sigma));
+    energy(o, t, density, rho, b2bar)
 }
