@@ -6,6 +6,8 @@ use lib.ListN.{length}
 use lib.Ieee.{Float}
 use Rattle.case_record.specs.declared.answer.Energies.{Energies}
 use Rattle.case_record.specs.declared.answer.Energies.the-variants.{Values, Refused}
+use Rattle.case_record.specs.declared.answer.Ends.{Ends}
+use Rattle.case_record.specs.declared.answer.Ends.the-variants.{Values as Ranges, Refused as EndsRefused}
 use Rattle.case_record.specs.Bytes.{bytesOf, doubleBytes}
 
 abbrev pub doublesBytes : List Float → List ℕ
@@ -33,3 +35,13 @@ refusal-bytes code = refl
 pub energies-bytes : (x y z : Float) → length (answerBytes (Values x y z)) ≡ 28
 unfolding bytesOf doubleBytes
 energies-bytes x y z = refl
+
+-- ---- the same of ends
+abbrev pub endsCode : Ends → ℕ
+endsCode (Ranges x y z) = 0
+endsCode (EndsRefused code) = code
+
+-- "ends by 3 pairs lower, upper (52 bytes)"
+abbrev pub endsBytes : Ends → List ℕ
+endsBytes (Ranges x y z) = answerWith 0 (x .lower ∷ x .upper ∷ y .lower ∷ y .upper ∷ z .lower ∷ z .upper ∷ [])
+endsBytes (EndsRefused code) = answerWith code []

@@ -4,12 +4,19 @@ ghost use Prim.Native.Nat.{_+_, _*_, _≤_};
 ghost use mathlib.Core.List.{[], _∷_};
 ghost use lib.ListN.{length};
 ghost use Rattle.case_record.specs.Bytes.{written};
-ghost use Rattle.case_record.specs.Answer.{answerBytes, answerWith, codeOf};
+ghost use Rattle.case_record.specs.Answer.{answerBytes, answerWith, codeOf, endsBytes, endsCode};
 use crate::bytes::put_double;
+use range::basic::Range;
 
 // The three energies, hard sphere, reference and attractive, or a number of refusal.
 pub enum Energies {
     Values(f64, f64, f64),
+    Refused(u8),
+}
+
+// The ranges of the same three, or a number of refusal.
+pub enum Ends {
+    Values(Range, Range, Range),
     Refused(u8),
 }
 
@@ -47,6 +54,31 @@ pub fn write_answer(answer: &mut [u8], e: Energies) -> u8
             0
         }
         Energies::Refused(code) => {
+            put_header(answer, 2, code);
+            code
+        }
+    }
+}
+
+// The same with ends: of each range lower, then upper.
+pub fn write_ends(answer: &mut [u8], e: Ends) -> u8
+    requires { ⌜ 52 ≤ length (now answer) ⌝ }
+    ensures { λ r. ⌜ (r ≡ endsCode e) × (now (answer .exit) ≡ written (now (answer .entry)) (endsBytes e)) ⌝ }
+{
+    match e {
+        Ends::Values(hard_sphere, reference, attractive) => {
+            let doubles = [
+                hard_sphere.lower,
+                hard_sphere.upper,
+                reference.lower,
+                reference.upper,
+                attractive.lower,
+                attractive.upper,
+            ];
+            put_answer(answer, 0, &doubles);
+            0
+        }
+        Ends::Refused(code) => {
             put_header(answer, 2, code);
             code
         }
