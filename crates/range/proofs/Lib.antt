@@ -8,6 +8,7 @@ pub mod Scaling
 pub mod Root
 pub mod Recipes
 pub mod Certified
+pub mod Carried
 pub mod Example
 pub mod Rows
 pub mod Points
