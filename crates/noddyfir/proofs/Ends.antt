@@ -1,14 +1,13 @@
 -- The theorem on records: whatever the bytes, where the ends call has a result its ends hold.
 -- The operations keep what ends enclose (crate range, `certified`), so the formulas of the three perturbations do (crate uvtheory, `contributions-kept`).
 use Prim.Native.Nat.{ℕ}
-use mathlib.Core.Path.{_≡_, refl, sym, ap, subst, _∙_}
+use mathlib.Core.Path.{_≡_, refl, sym, subst, _∙_}
 use mathlib.Core.Bool.{Bool, true, false, cond, _&&_}
 use mathlib.Core.List.{List}
 use native.Mathlib.Omega.{arith}
-use lib.Dec.{T, eqb}
+use lib.Dec.{T, eqb, eqb→eq}
 use lib.Ieee.{Float}
 use lib.Ieee.Scale.{finite}
-use borrow.Author.Tests.{eq-eqb, ne-eqb}
 use Rattle.arithmetic.specs.Arithmetic.{Arithmetic}
 use Rattle.arithmetic.specs.Doubles.{doubles}
 use Rattle.arithmetic.specs.Fraction.{Fraction, _≼_}
@@ -25,8 +24,7 @@ use Rattle.uvtheory.specs.Contributions.{Contributions}
 use Rattle.uvtheory.specs.Eos.{residual-helmholtz-energy-contributions}
 use Rattle.uvtheory.specs.Rows.{row, place, parameters, state}
 use Rattle.uvtheory.proofs.Kept.{Related, contributions-kept}
-use Rattle.case_record.specs.declared.answer.Energies.the-variants.{Values}
-use Rattle.case_record.specs.declared.answer.Ends.{Ends}
+use Rattle.case_record.specs.declared.answer.Energies.the-variants.{Values, Refused}
 use Rattle.case_record.specs.declared.answer.Ends.the-variants.{Values as Ranges, Refused as NoEnds}
 use Rattle.case_record.specs.declared.case.Case.{Case}
 use Rattle.case_record.specs.Record.{caseOf}
@@ -34,7 +32,7 @@ use Rattle.case_record.specs.Checks.{refusalOf}
 use Rattle.case_record.specs.Answer.{codeOf}
 use Rattle.noddyfir.specs.Call.{answerOf, energiesOf, finiteOr9, endsOf, endsAnswerOf, okOr10}
 use Rattle.noddyfir.specs.Ends.{readingOf, less, ReadingHeld, EnergyHeld, EndsHold}
-use Rattle.noddyfir.proofs.Answers.{accepted, refused}
+use Rattle.noddyfir.proofs.Answers.{accepted}
 
 -- the three energies of a case in any arithmetic
 abbrev energiesIn : (A : Arithmetic) → Case → Contributions (A .Value)
@@ -72,3 +70,76 @@ module _ {r : Range} {d : Float} {x : Reading} (holds : Holds d x) (carries : Ca
             let between : Within (r .lower) (r .upper) (q .result) = subst (λ (s : Range). Within (s .lower) (s .upper) (q .result)) (sym (carries .is)) (q .between) in
             record { q = q .result; has-result = q .is; between = between; above = apart (near .high) (between .low); below = apart (between .high) (near .low) };
       }
+
+-- ---- what a result says
+no-ends : {X : Type 0} {code : ℕ} {h r a : Range} → NoEnds code ≡ Ranges h r a → X
+no-ends e = let z : _≡_ {A = ℕ} 0 1 = cc in absurd (omega arith)
+
+-- the three ranges are ok, and are those of the formulas
+pub record Three (e : Contributions Range) (h r a : Range) : Type 0 where
+  pub hard-sphere-ok : Ok (e .hard-sphere)
+  pub reference-ok : Ok (e .reference)
+  pub attractive-ok : Ok (e .attractive)
+  pub hard-sphere-is : e .hard-sphere ≡ h
+  pub reference-is : e .reference ≡ r
+  pub attractive-is : e .attractive ≡ a
+
+three : (e : Contributions Range) {h r a : Range} → okOr10 e ≡ Ranges h r a → Three e h r a
+unfolding okOr10
+three e {h} {r} {a} = go (ok (e .hard-sphere)) (ok (e .reference)) (ok (e .attractive)) refl refl refl
+  where
+    go : (b c d : Bool) → ok (e .hard-sphere) ≡ b → ok (e .reference) ≡ c → ok (e .attractive) ≡ d → cond (b && c && d) (Ranges (e .hard-sphere) (e .reference) (e .attractive)) (NoEnds 10) ≡ Ranges h r a → Three e h r a
+    go true true true p q t z = record { hard-sphere-ok = subst T (sym p) tt; reference-ok = subst T (sym q) tt; attractive-ok = subst T (sym t) tt; hard-sphere-is = cc; reference-is = cc; attractive-is = cc }
+    go true true false p q t z = no-ends z
+    go true false d p q t z = no-ends z
+    go false c d p q t z = no-ends z
+
+-- the energies have a result, and the ends are those of the case
+its-ends : (s : List ℕ) {h r a : Range} → endsAnswerOf s ≡ Ranges h r a → (codeOf (answerOf s) ≡ 0) × (endsOf (caseOf s) ≡ Ranges h r a)
+unfolding endsAnswerOf
+its-ends s {h} {r} {a} = go (eqb (codeOf (answerOf s)) 0) refl
+  where
+    go : (b : Bool) → eqb (codeOf (answerOf s)) 0 ≡ b → cond b (endsOf (caseOf s)) (NoEnds (codeOf (answerOf s))) ≡ Ranges h r a → (codeOf (answerOf s) ≡ 0) × (endsOf (caseOf s) ≡ Ranges h r a)
+    go true e z = (eqb→eq (codeOf (answerOf s)) 0 (subst T (sym e) tt), z)
+    go false e z = no-ends z
+
+passed : (s : List ℕ) → codeOf (answerOf s) ≡ 0 → refusalOf s ≡ 0
+unfolding answerOf
+passed s = go (eqb (refusalOf s) 0) refl
+  where
+    go : (b : Bool) → eqb (refusalOf s) 0 ≡ b → codeOf (cond b (energiesOf (caseOf s)) (Refused (refusalOf s))) ≡ 0 → refusalOf s ≡ 0
+    go true e z = eqb→eq (refusalOf s) 0 (subst T (sym e) tt)
+    go false e z = z
+
+all-finite : (e : Contributions Float) → T (finite (e .hard-sphere)) → T (finite (e .reference)) → T (finite (e .attractive)) → finiteOr9 e ≡ Values (e .hard-sphere) (e .reference) (e .attractive)
+unfolding finiteOr9
+all-finite e = go (finite (e .hard-sphere)) (finite (e .reference)) (finite (e .attractive))
+  where
+    go : (b c d : Bool) → T b → T c → T d → cond (b && c && d) (Values (e .hard-sphere) (e .reference) (e .attractive)) (Refused 9) ≡ Values (e .hard-sphere) (e .reference) (e .attractive)
+    go true true true p q r = refl
+    go true true false p q r = absurd r
+    go true false d p q r = absurd q
+    go false c d p q r = absurd p
+
+-- ---- the theorem
+pub ends-hold : (s : List ℕ) (hard-sphere reference attractive : Range) → endsAnswerOf s ≡ Ranges hard-sphere reference attractive → EndsHold s hard-sphere reference attractive
+unfolding endsOf energiesOf
+ends-hold s h r a e =
+    let c = caseOf s in
+    let result = its-ends s e in
+    let t = three (energiesIn ranges c) (result .1) in
+    let holds = energies-kept doubles exact Holds certified c in
+    let carries = energies-kept ranges exact Carries carried c in
+    let d = energiesIn doubles c in
+    let x = encloses (holds .hard-sphere-is) (carries .hard-sphere-is) (t .hard-sphere-ok) in
+    let y = encloses (holds .reference-is) (carries .reference-is) (t .reference-ok) in
+    let z = encloses (holds .attractive-is) (carries .attractive-is) (t .attractive-ok) in
+    record {
+      x = d .hard-sphere;
+      y = d .reference;
+      z = d .attractive;
+      energies = accepted s (passed s (result .0)) ∙ all-finite d (x .finite) (y .finite) (z .finite);
+      hard-sphere-held = subst (λ (i : Range). EnergyHeld i (d .hard-sphere) (readingOf c .hard-sphere)) (t .hard-sphere-is) (held (holds .hard-sphere-is) (carries .hard-sphere-is) (t .hard-sphere-ok));
+      reference-held = subst (λ (i : Range). EnergyHeld i (d .reference) (readingOf c .reference)) (t .reference-is) (held (holds .reference-is) (carries .reference-is) (t .reference-ok));
+      attractive-held = subst (λ (i : Range). EnergyHeld i (d .attractive) (readingOf c .attractive)) (t .attractive-is) (held (holds .attractive-is) (carries .attractive-is) (t .attractive-ok));
+    }
