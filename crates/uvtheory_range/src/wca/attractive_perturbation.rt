@@ -1,7 +1,9 @@
 // uvtheory/eos/wca/attractive_perturbation.rs on ranges: the attractive perturbation by Weeks, Chandler and Andersen.
 use crate::one_fluid::OneFluid;
+use crate::parameters::Combined;
 use crate::parameters::mean_field_of;
 use crate::parameters::mie_prefactor;
+use crate::wca::hard_sphere::LengthTables;
 use crate::wca::hard_sphere::q_of;
 use crate::wca::hard_sphere::rm_of;
 use range::basic::Range;
@@ -10,11 +12,14 @@ use uvtheory::wca::attractive_perturbation::C_WCA;
 use uvtheory::wca::attractive_perturbation::C2;
 use uvtheory::wca::attractive_perturbation::CU_WCA;
 ghost use mathlib.Core.Path.{_≡_};
+ghost use Prim.Native.Nat.{_≤_, _<_};
 ghost use Rattle.range.specs.Rules.{ranges};
 ghost use Rattle.uvtheory.specs.Literals as N;
+ghost use Rattle.uvtheory.specs.Parameters.{mie-prefactor};
 ghost use Rattle.uvtheory.specs.Rows as Doubles;
 ghost use Rattle.uvtheory.specs.Wca.AttractivePerturbation as F;
-ghost use Rattle.uvtheory_range.specs.Rows.{fluid};
+ghost use Rattle.uvtheory_range.specs.Rows.{matrix, fluid, Matrix};
+ghost use Rattle.uvtheory_range.specs.Held.{Symmetric};
 
 pub fn delta_b12u(
     t_x: Range,
@@ -224,4 +229,56 @@ pub fn energy(o: OneFluid, t: Range, density: Range, rho: Range, b2bar: Range) -
     let fraction = u_fraction_wca(o.rep, rho).neg().add(Range::ONE);
     let rest = fraction.mul(b2bar.sub(b21u)).mul(density);
     density.mul(a1u.add(rest))
+}
+
+// Of the pair (i, j), or what was worked for (j, i).
+fn delta_b2_at(
+    i: usize,
+    j: usize,
+    t: Range,
+    eps_k: Range,
+    rep: Range,
+    att: Range,
+    q: Range,
+    rm: Range,
+    worked: Range,
+) -> Range
+    requires { ⌜ (j < i → worked ≡ F.delta-b2-of ranges (ranges .div t «eps_k») rep att q (mie-prefactor ranges rep att) rm) ⌝ }
+    ensures { λ r. ⌜ r ≡ F.delta-b2-of ranges (ranges .div t «eps_k») rep att q (mie-prefactor ranges rep att) rm ⌝ }
+{
+    if j < i {
+        return worked;
+    }
+    delta_b2(t.div(eps_k), rep, att, q, mie_prefactor(rep, att), rm)
+}
+
+// Of all pairs: each is worked once, for i up to j, and copied.
+fn delta_b2_ij(n: usize, c: Combined, t: Range, l: LengthTables) -> [Range; 64]
+    requires { ⌜ (n ≤ 8) × Symmetric n (c .«rep_ij») × Symmetric n (c .«att_ij») × Symmetric n (c .«eps_k_ij») × Symmetric n (l .q) × Symmetric n (l .rm) ⌝ }
+    ensures { λ r. ⌜ Matrix n r (λ i j. F.delta-b2-of ranges (ranges .div t (matrix n (c .«eps_k_ij») i j)) (matrix n (c .«rep_ij») i j) (matrix n (c .«att_ij») i j) (matrix n (l .q) i j) (mie-prefactor ranges (matrix n (c .«rep_ij») i j) (matrix n (c .«att_ij») i j)) (matrix n (l .rm) i j)) ⌝ }
+{
+    let rep_ij = c.rep_ij;
+    let att_ij = c.att_ij;
+    let eps_k_ij = c.eps_k_ij;
+    let q = l.q;
+    let rm = l.rm;
+    let mut b2 = [Range::ZERO; 64];
+    let mut k = 0;
+    while k < n * n {
+        let i = k / n;
+        let j = k % n;
+        b2[k] = delta_b2_at(
+            i,
+            j,
+            t,
+            eps_k_ij[k],
+            rep_ij[k],
+            att_ij[k],
+            q[k],
+            rm[k],
+            b2[j * n + i],
+        );
+        k += 1;
+    }
+    b2
 }

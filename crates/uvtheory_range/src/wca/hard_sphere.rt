@@ -1,12 +1,18 @@
 // uvtheory/eos/wca/hard_sphere.rs on ranges: diameters and lengths by Weeks, Chandler and Andersen.
+use crate::parameters::Combined;
 use range::basic::Range;
 use uvtheory::consts::PI;
+use uvtheory::parameters::Mixture;
 use uvtheory::wca::hard_sphere::WCA_CONSTANTS_Q;
 ghost use mathlib.Core.Path.{_≡_};
+ghost use Prim.Native.Nat.{_≤_, _<_};
 ghost use Rattle.range.specs.Rules.{ranges};
 ghost use Rattle.uvtheory.specs.Literals as N;
 ghost use Rattle.uvtheory.specs.Rows as Doubles;
 ghost use Rattle.uvtheory.specs.Wca.HardSphere as F;
+ghost use Rattle.uvtheory_range.specs.Rows.{matrix, Matrix};
+ghost use Rattle.uvtheory_range.specs.Held.{Symmetric};
+ghost use Rattle.uvtheory_range.specs.Lengths.{ComponentLengthsOf};
 
 // The place of the potential's minimum.
 pub fn rm_of(rep: Range, att: Range) -> Range
@@ -81,11 +87,71 @@ pub fn q_of(t_x: Range, nu: Range, n: Range, rs: Range) -> Range
     polynomial_q(t_x, nu, n).powf(exponent).mul(rs)
 }
 
-// The place of the minimum, the diameter and the length of each component.
+// The place of the minimum, the diameter and the length of a component, and of each.
+pub struct ComponentLength {
+    pub rm: Range,
+    pub d: Range,
+    pub length: Range,
+}
+
 pub struct ComponentLengths {
     pub rm: [Range; 8],
     pub d: [Range; 8],
     pub length: [Range; 8],
+}
+
+// Of one component, as sent.
+fn component_length(
+    rep: f64,
+    att: f64,
+    sigma: f64,
+    epsilon_k: f64,
+    temperature: Range,
+) -> ComponentLength
+    ensures { λ r. ⌜ (r .rm ≡ F.rm-of ranges (ranges .constant rep) (ranges .constant att))
+        × (r .d ≡ F.diameter-of ranges (ranges .div temperature (ranges .constant «epsilon_k»)) (ranges .constant rep) (F.rm-of ranges (ranges .constant rep) (ranges .constant att)) (ranges .constant sigma))
+        × (r .length ≡ ranges .add (ranges .neg (r .d)) (ranges .mul (r .rm) (ranges .constant sigma))) ⌝ }
+{
+    let rep = Range::point(rep);
+    let sigma = Range::point(sigma);
+    let t = temperature.div(Range::point(epsilon_k));
+    let rm = rm_of(rep, Range::point(att));
+    let d = diameter_of(t, rep, rm, sigma);
+    ComponentLength {
+        rm,
+        d,
+        length: d.neg().add(rm.mul(sigma)),
+    }
+}
+
+pub fn component_lengths(m: Mixture, temperature: Range) -> ComponentLengths
+    requires { ⌜ m .n ≤ 8 ⌝ }
+    ensures { λ r. ⌜ ComponentLengthsOf m temperature r ⌝ }
+{
+    let n = m.n;
+    let rep = m.rep;
+    let att = m.att;
+    let sigma = m.sigma;
+    let epsilon_k = m.epsilon_k;
+    let mut rms = [Range::ZERO; 8];
+    let mut ds = [Range::ZERO; 8];
+    let mut lengths = [Range::ZERO; 8];
+    let mut i = 0;
+    while i < n {
+        let l = component_length(rep[i], att[i], sigma[i], epsilon_k[i], temperature);
+        let rm = l.rm;
+        let d = l.d;
+        let length = l.length;
+        rms[i] = rm;
+        ds[i] = d;
+        lengths[i] = length;
+        i += 1;
+    }
+    ComponentLengths {
+        rm: rms,
+        d: ds,
+        length: lengths,
+    }
 }
 
 // The dimensionless tau of a pair.
@@ -104,4 +170,57 @@ pub struct PairLengths {
 pub struct LengthTables {
     pub rm: [Range; 64],
     pub q: [Range; 64],
+}
+
+// Of the pair (i, j), or what was worked for (j, i).
+fn pair_lengths_at(
+    i: usize,
+    j: usize,
+    t: Range,
+    eps_k: Range,
+    rep: Range,
+    att: Range,
+    worked: PairLengths,
+) -> PairLengths
+    requires { ⌜ (j < i → (worked .rm ≡ F.rm-of ranges rep att) × (worked .q ≡ F.dimensionless-diameter-q-wca ranges (ranges .div t «eps_k») rep att)) ⌝ }
+    ensures { λ r. ⌜ (r .rm ≡ F.rm-of ranges rep att) × (r .q ≡ F.dimensionless-diameter-q-wca ranges (ranges .div t «eps_k») rep att) ⌝ }
+{
+    if j < i {
+        return worked;
+    }
+    let rm = rm_of(rep, att);
+    PairLengths {
+        rm,
+        q: q_of(t.div(eps_k), rep, att, rm),
+    }
+}
+
+// Of all pairs: each is worked once, for i up to j, and copied.
+pub fn pair_lengths(n: usize, c: Combined, t: Range) -> LengthTables
+    requires { ⌜ (n ≤ 8) × Symmetric n (c .«rep_ij») × Symmetric n (c .«att_ij») × Symmetric n (c .«eps_k_ij») ⌝ }
+    ensures { λ r. ⌜ Matrix n (r .rm) (λ i j. F.rm-of ranges (matrix n (c .«rep_ij») i j) (matrix n (c .«att_ij») i j))
+        × Matrix n (r .q) (λ i j. F.dimensionless-diameter-q-wca ranges (ranges .div t (matrix n (c .«eps_k_ij») i j)) (matrix n (c .«rep_ij») i j) (matrix n (c .«att_ij») i j)) ⌝ }
+{
+    let rep_ij = c.rep_ij;
+    let att_ij = c.att_ij;
+    let eps_k_ij = c.eps_k_ij;
+    let mut rm = [Range::ZERO; 64];
+    let mut q = [Range::ZERO; 64];
+    let mut k = 0;
+    while k < n * n {
+        let i = k / n;
+        let j = k % n;
+        let mirrored = j * n + i;
+        let worked = PairLengths {
+            rm: rm[mirrored],
+            q: q[mirrored],
+        };
+        let l = pair_lengths_at(i, j, t, eps_k_ij[k], rep_ij[k], att_ij[k], worked);
+        let rm_k = l.rm;
+        let q_k = l.q;
+        rm[k] = rm_k;
+        q[k] = q_k;
+        k += 1;
+    }
+    LengthTables { rm, q }
 }
