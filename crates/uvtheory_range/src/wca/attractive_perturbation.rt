@@ -1,5 +1,9 @@
 // uvtheory/eos/wca/attractive_perturbation.rs on ranges: the attractive perturbation by Weeks, Chandler and Andersen.
 use crate::one_fluid::OneFluid;
+use crate::one_fluid::mean_cube;
+use crate::one_fluid::one_fluid_properties;
+use crate::one_fluid::points_of;
+use crate::one_fluid::virial_sum;
 use crate::parameters::Combined;
 use crate::parameters::mean_field_of;
 use crate::parameters::mie_prefactor;
@@ -8,6 +12,8 @@ use crate::wca::hard_sphere::q_of;
 use crate::wca::hard_sphere::rm_of;
 use range::basic::Range;
 use uvtheory::consts::PI;
+use uvtheory::parameters::Mixture;
+use uvtheory::parameters::State;
 use uvtheory::wca::attractive_perturbation::C_WCA;
 use uvtheory::wca::attractive_perturbation::C2;
 use uvtheory::wca::attractive_perturbation::CU_WCA;
@@ -17,9 +23,12 @@ ghost use Rattle.range.specs.Rules.{ranges};
 ghost use Rattle.uvtheory.specs.Literals as N;
 ghost use Rattle.uvtheory.specs.Parameters.{mie-prefactor};
 ghost use Rattle.uvtheory.specs.Rows as Doubles;
+ghost use Rattle.uvtheory.specs.Rows.{parameters, state};
+ghost use Rattle.uvtheory.specs.Wca.HardSphere.{diameter-wca};
 ghost use Rattle.uvtheory.specs.Wca.AttractivePerturbation as F;
-ghost use Rattle.uvtheory_range.specs.Rows.{matrix, fluid, Matrix};
-ghost use Rattle.uvtheory_range.specs.Held.{Symmetric};
+ghost use Rattle.uvtheory_range.specs.Rows.{points, matrix, fluid, Row, Matrix};
+ghost use Rattle.uvtheory_range.specs.Held.{CombinedOf, Symmetric};
+ghost use Rattle.uvtheory_range.specs.Lengths.{LengthsOf};
 
 pub fn delta_b12u(
     t_x: Range,
@@ -281,4 +290,30 @@ fn delta_b2_ij(n: usize, c: Combined, t: Range, l: LengthTables) -> [Range; 64]
         k += 1;
     }
     b2
+}
+
+// By the combined values c, the lengths l of the pairs, the diameters d and the density.
+pub fn helmholtz_energy_density(
+    m: Mixture,
+    s: State,
+    c: Combined,
+    l: LengthTables,
+    d: [Range; 8],
+    density: Range,
+) -> Range
+    requires { ⌜ (m .n ≤ 8) × CombinedOf m c × LengthsOf m (ranges .constant (s .temperature)) l × Row (m .n) d (diameter-wca ranges (parameters ranges m) (ranges .constant (s .temperature))) ⌝ }
+    requires { ⌜ density ≡ ranges .sum (m .n) (points (s .«partial_density»)) ⌝ }
+    ensures { λ r. ⌜ r ≡ F.helmholtz-energy-density ranges (parameters ranges m) (state ranges s) ⌝ }
+{
+    let n = m.n;
+    let t = Range::point(s.temperature);
+    let x = s.molefracs;
+    let sent = m.sigma;
+    let sigma_ij = c.sigma_ij;
+    let sigma = points_of(n, &sent);
+    let o = one_fluid_properties(n, c, sigma, &x, d);
+    let b2 = delta_b2_ij(n, c, t, l);
+    let b2bar = virial_sum(n, &x, sigma_ij, 3, b2);
+    let rho = density.mul(mean_cube(n, &x, sigma));
+    energy(o, t, density, rho, b2bar)
 }
