@@ -1,3 +1,4 @@
 -- Laws for the code on ranges.
 pub mod Combined
 pub mod Arrays
+pub mod Lengths

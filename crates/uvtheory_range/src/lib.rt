@@ -6,3 +6,4 @@ pub mod one_fluid;
 pub mod packing_fraction;
 pub mod parameters;
 pub mod reference_energy;
+pub mod wca;
