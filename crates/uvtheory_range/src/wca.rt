@@ -1,5 +1,6 @@
 // uvtheory/eos/wca on ranges: the contributions by Weeks, Chandler and Andersen.
 pub mod attractive_perturbation;
+pub mod attractive_perturbation_uvb3;
 pub mod hard_sphere;
 pub mod reference_perturbation;
 
