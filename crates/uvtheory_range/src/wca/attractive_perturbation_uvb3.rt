@@ -1,5 +1,14 @@
 // uvtheory/eos/wca/attractive_perturbation_uvb3.rs on ranges: the attractive perturbation of WCA-B3.
+use crate::one_fluid::OneFluid;
 use crate::packing_fraction::coefficient_b;
+use crate::parameters::Combined;
+use crate::parameters::mean_field_of;
+use crate::parameters::mie_prefactor;
+use crate::wca::attractive_perturbation::delta_a1u;
+use crate::wca::attractive_perturbation::delta_b12u;
+use crate::wca::hard_sphere::LengthTables;
+use crate::wca::hard_sphere::q_of;
+use crate::wca::hard_sphere::rm_of;
 use range::basic::Range;
 use uvtheory::consts::PI;
 use uvtheory::wca::attractive_perturbation::C_WCA;
@@ -14,11 +23,13 @@ use uvtheory::wca::attractive_perturbation_uvb3::WHOLES;
 use uvtheory::wca::hard_sphere::WCA_CONSTANTS_ETA_A_UVB3;
 use uvtheory::wca::hard_sphere::WCA_CONSTANTS_ETA_B_UVB3;
 ghost use mathlib.Core.Path.{_≡_};
-ghost use Prim.Native.Nat.{_<_};
+ghost use Prim.Native.Nat.{_≤_, _<_};
 ghost use Rattle.range.specs.Rules.{ranges};
 ghost use Rattle.uvtheory.specs.Literals as N;
 ghost use Rattle.uvtheory.specs.Rows as Doubles;
 ghost use Rattle.uvtheory.specs.Wca.AttractivePerturbationUvb3 as F;
+ghost use Rattle.uvtheory_range.specs.Rows.{points, row, matrix, fluid, Matrix};
+ghost use Rattle.uvtheory_range.specs.Held.{Symmetric};
 
 // The low temperature correction; e is the exponential of both its cases. Both are worked: the rule picks one for the whole range.
 fn omega(t_x: Range, e: Range) -> Range
@@ -232,4 +243,137 @@ fn alpha(rho_x: Range, rep_x: Range, t_x: Range) -> Range
     let first = rho_x.neg().mul(one.div(rep_x)).mul(Range::point(CU_WCA[0]));
     let second = one.div(t_x.powi(2)).mul(Range::point(CU_WCA[1]));
     first.mul(second.add(one)).exp()
+}
+
+// The terms of the second and the third virial coefficient, by the alpha a of the third.
+fn virial_terms(density: Range, a: Range, b2: Range, b3: Range) -> Range
+    ensures { λ r. ⌜ r ≡ ranges .add (ranges .mul b2 density) (ranges .mul (ranges .mul (ranges .mul (ranges .powi density 2) a) b3) (ranges .constant N.half)) ⌝ }
+{
+    let third = density.powi(2).mul(a).mul(b3).mul(Range::point(0.5));
+    b2.mul(density).add(third)
+}
+
+pub fn energy(
+    o: OneFluid,
+    t: Range,
+    density: Range,
+    rho: Range,
+    b2bar: Range,
+    b3bar: Range,
+) -> Range
+    ensures { λ r. ⌜ r ≡ F.energy ranges (fluid o) t density rho b2bar b3bar ⌝ }
+{
+    let t_x = t.div(o.epsilon_k);
+    let rm_x = rm_of(o.rep, o.att);
+    let c = mie_prefactor(o.rep, o.att);
+    let mean_field_constant_x = mean_field_of(c, o.rep, o.att, rm_x);
+    let q_vdw = q_of(t_x, o.rep, o.att, rm_x);
+    let a1u = delta_a1u(o, t_x, density, mean_field_constant_x, c, q_vdw, rm_x);
+    let b21u = delta_b12u(
+        t_x,
+        mean_field_constant_x,
+        o.weighted_sigma3_ij,
+        q_vdw,
+        rm_x,
+    );
+    let db31u = delta_b31u(t_x, o.weighted_sigma3_ij, rm_x, o.rep, c, o.d);
+    let a = alpha(density.mul(o.sigma.powi(3)), o.rep, t_x);
+    let b = virial_terms(density, a, b2bar.sub(b21u), b3bar.sub(db31u));
+    let fraction = u_fraction_wca(o.rep, rho, t_x).neg().add(Range::ONE);
+    density.mul(a1u.add(fraction.mul(b)))
+}
+
+// Of the pair (i, j), or what was worked for (j, i).
+fn delta_b2_at(
+    i: usize,
+    j: usize,
+    t: Range,
+    eps_k: Range,
+    rep: Range,
+    q: Range,
+    rm: Range,
+    worked: Range,
+) -> Range
+    requires { ⌜ (j < i → worked ≡ F.delta-b2-of ranges (ranges .div t «eps_k») rep q rm) ⌝ }
+    ensures { λ r. ⌜ r ≡ F.delta-b2-of ranges (ranges .div t «eps_k») rep q rm ⌝ }
+{
+    if j < i {
+        return worked;
+    }
+    delta_b2(t.div(eps_k), rep, q, rm)
+}
+
+// Of all pairs: each is worked once, for i up to j, and copied.
+fn delta_b2_ij(n: usize, c: Combined, t: Range, l: LengthTables) -> [Range; 64]
+    requires { ⌜ (n ≤ 8) × Symmetric n (c .«rep_ij») × Symmetric n (c .«eps_k_ij») × Symmetric n (l .q) × Symmetric n (l .rm) ⌝ }
+    ensures { λ r. ⌜ Matrix n r (λ i j. F.delta-b2-of ranges (ranges .div t (matrix n (c .«eps_k_ij») i j)) (matrix n (c .«rep_ij») i j) (matrix n (l .q) i j) (matrix n (l .rm) i j)) ⌝ }
+{
+    let rep_ij = c.rep_ij;
+    let eps_k_ij = c.eps_k_ij;
+    let q = l.q;
+    let rm = l.rm;
+    let mut b2 = [Range::ZERO; 64];
+    let mut k = 0;
+    while k < n * n {
+        let i = k / n;
+        let j = k % n;
+        b2[k] = delta_b2_at(i, j, t, eps_k_ij[k], rep_ij[k], q[k], rm[k], b2[j * n + i]);
+        k += 1;
+    }
+    b2
+}
+
+// Of the pair of components with diameters di and dj, and sigmas si and sj as sent.
+fn delta_b3_at(
+    t: Range,
+    eps_k: Range,
+    rm: Range,
+    rep: Range,
+    q: Range,
+    di: Range,
+    si: f64,
+    dj: Range,
+    sj: f64,
+) -> Range
+    ensures { λ r. ⌜ r ≡ F.delta-b3 ranges (ranges .div t «eps_k») rm rep (ranges .mul (ranges .add (ranges .div di (ranges .constant si)) (ranges .div dj (ranges .constant sj))) (ranges .constant N.half)) q ⌝ }
+{
+    let d = di.div(Range::point(si)).add(dj.div(Range::point(sj)));
+    delta_b3(t.div(eps_k), rm, rep, d.mul(Range::point(0.5)), q)
+}
+
+fn delta_b3_ij(
+    n: usize,
+    c: Combined,
+    t: Range,
+    l: LengthTables,
+    d: [Range; 8],
+    sigma: &[f64; 8],
+) -> [Range; 64]
+    requires { ⌜ n ≤ 8 ⌝ }
+    ensures { λ r. ⌜ Matrix n r (λ i j. F.delta-b3 ranges (ranges .div t (matrix n (c .«eps_k_ij») i j)) (matrix n (l .rm) i j) (matrix n (c .«rep_ij») i j)
+        (ranges .mul (ranges .add (ranges .div (row d i) (points (now (sigma .entry)) i)) (ranges .div (row d j) (points (now (sigma .entry)) j))) (ranges .constant N.half)) (matrix n (l .q) i j)) ⌝ }
+{
+    let rep_ij = c.rep_ij;
+    let eps_k_ij = c.eps_k_ij;
+    let q = l.q;
+    let rm = l.rm;
+    let mut b3 = [Range::ZERO; 64];
+    let mut k = 0;
+    while k < n * n {
+        let i = k / n;
+        let j = k % n;
+        b3[k] = delta_b3_at(
+            t,
+            eps_k_ij[k],
+            rm[k],
+            rep_ij[k],
+            q[k],
+            d[i],
+            sigma[i],
+            d[j],
+            sigma[j],
+        );
+        k += 1;
+    }
+    b3
 }
