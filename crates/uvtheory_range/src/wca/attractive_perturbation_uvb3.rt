@@ -1,5 +1,9 @@
 // uvtheory/eos/wca/attractive_perturbation_uvb3.rs on ranges: the attractive perturbation of WCA-B3.
 use crate::one_fluid::OneFluid;
+use crate::one_fluid::mean_cube;
+use crate::one_fluid::one_fluid_properties;
+use crate::one_fluid::points_of;
+use crate::one_fluid::virial_sum;
 use crate::packing_fraction::coefficient_b;
 use crate::parameters::Combined;
 use crate::parameters::mean_field_of;
@@ -11,6 +15,8 @@ use crate::wca::hard_sphere::q_of;
 use crate::wca::hard_sphere::rm_of;
 use range::basic::Range;
 use uvtheory::consts::PI;
+use uvtheory::parameters::Mixture;
+use uvtheory::parameters::State;
 use uvtheory::wca::attractive_perturbation::C_WCA;
 use uvtheory::wca::attractive_perturbation_uvb3::C_B2_RSAP;
 use uvtheory::wca::attractive_perturbation_uvb3::CU_WCA;
@@ -27,9 +33,12 @@ ghost use Prim.Native.Nat.{_≤_, _<_};
 ghost use Rattle.range.specs.Rules.{ranges};
 ghost use Rattle.uvtheory.specs.Literals as N;
 ghost use Rattle.uvtheory.specs.Rows as Doubles;
+ghost use Rattle.uvtheory.specs.Rows.{parameters, state};
+ghost use Rattle.uvtheory.specs.Wca.HardSphere.{diameter-wca};
 ghost use Rattle.uvtheory.specs.Wca.AttractivePerturbationUvb3 as F;
-ghost use Rattle.uvtheory_range.specs.Rows.{points, row, matrix, fluid, Matrix};
-ghost use Rattle.uvtheory_range.specs.Held.{Symmetric};
+ghost use Rattle.uvtheory_range.specs.Rows.{points, row, matrix, fluid, Row, Matrix};
+ghost use Rattle.uvtheory_range.specs.Held.{CombinedOf, Symmetric};
+ghost use Rattle.uvtheory_range.specs.Lengths.{LengthsOf};
 
 // The low temperature correction; e is the exponential of both its cases. Both are worked: the rule picks one for the whole range.
 fn omega(t_x: Range, e: Range) -> Range
@@ -376,4 +385,32 @@ fn delta_b3_ij(
         k += 1;
     }
     b3
+}
+
+// By the combined values c, the lengths l of the pairs, the diameters d and the density.
+pub fn helmholtz_energy_density(
+    m: Mixture,
+    s: State,
+    c: Combined,
+    l: LengthTables,
+    d: [Range; 8],
+    density: Range,
+) -> Range
+    requires { ⌜ (m .n ≤ 8) × CombinedOf m c × LengthsOf m (ranges .constant (s .temperature)) l × Row (m .n) d (diameter-wca ranges (parameters ranges m) (ranges .constant (s .temperature))) ⌝ }
+    requires { ⌜ density ≡ ranges .sum (m .n) (points (s .«partial_density»)) ⌝ }
+    ensures { λ r. ⌜ r ≡ F.helmholtz-energy-density ranges (parameters ranges m) (state ranges s) ⌝ }
+{
+    let n = m.n;
+    let t = Range::point(s.temperature);
+    let x = s.molefracs;
+    let sent = m.sigma;
+    let sigma_ij = c.sigma_ij;
+    let sigma = points_of(n, &sent);
+    let o = one_fluid_properties(n, c, sigma, &x, d);
+    let b2 = delta_b2_ij(n, c, t, l);
+    let b2bar = virial_sum(n, &x, sigma_ij, 3, b2);
+    let b3 = delta_b3_ij(n, c, t, l, d, &sent);
+    let b3bar = virial_sum(n, &x, sigma_ij, 6, b3);
+    let rho = density.mul(mean_cube(n, &x, sigma));
+    energy(o, t, density, rho, b2bar, b3bar)
 }
