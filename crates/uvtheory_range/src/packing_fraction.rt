@@ -25,7 +25,7 @@ pub fn packing_fraction(n: usize, partial_density: &[f64; 8], diameter: [Range; 
 }
 
 // A coefficient by its row of ..ETA_B.
-fn coefficient_b(b: [f64; 2], tau: Range) -> Range
+pub fn coefficient_b(b: [f64; 2], tau: Range) -> Range
     ensures { λ r. ⌜ r ≡ F.coefficient-b ranges (Doubles.row b) tau ⌝ }
 {
     tau.mul(Range::point(b[0]))

@@ -1,5 +1,6 @@
-// uvtheory/eos/wca on ranges: the contributions by Weeks, Chandler and Andersen.
+// uvtheory/eos/wca on ranges: the contributions by Weeks, Chandler and Andersen, and those of its B3 form.
 pub mod attractive_perturbation;
+pub mod attractive_perturbation_uvb3;
 pub mod hard_sphere;
 pub mod reference_perturbation;
 
@@ -12,7 +13,9 @@ use range::basic::Range;
 use uvtheory::parameters::Mixture;
 use uvtheory::parameters::State;
 use uvtheory::wca::hard_sphere::WCA_CONSTANTS_ETA_A;
+use uvtheory::wca::hard_sphere::WCA_CONSTANTS_ETA_A_UVB3;
 use uvtheory::wca::hard_sphere::WCA_CONSTANTS_ETA_B;
+use uvtheory::wca::hard_sphere::WCA_CONSTANTS_ETA_B_UVB3;
 ghost use Prim.Native.Nat.{_≤_};
 ghost use Rattle.range.specs.Rules.{ranges};
 ghost use Rattle.uvtheory.specs.Rows.{parameters, state};
@@ -45,5 +48,34 @@ pub fn residual_helmholtz_energy_contributions(m: Mixture, s: State) -> Contribu
             density,
         ),
         attractive: attractive_perturbation::helmholtz_energy_density(m, s, c, l, d, density),
+    }
+}
+
+// WeeksChandlerAndersenB3.
+pub fn residual_helmholtz_energy_contributions_b3(m: Mixture, s: State) -> Contributions
+    requires { ⌜ m .n ≤ 8 ⌝ }
+    ensures { λ r. ⌜ ContributionsOf r (F.residual-helmholtz-energy-contributions-b3 ranges (parameters ranges m) (state ranges s)) ⌝ }
+{
+    let n = m.n;
+    let partial_density = s.partial_density;
+    let c = combine(m);
+    let t = Range::point(s.temperature);
+    let r = component_lengths(m, t);
+    let l = pair_lengths(n, c, t);
+    let d = r.d;
+    let density = sum(n, &partial_density);
+    Contributions {
+        hard_sphere: crate::hard_sphere::helmholtz_energy_density(n, d, s, density),
+        reference: reference_perturbation::helmholtz_energy_density(
+            WCA_CONSTANTS_ETA_A_UVB3,
+            WCA_CONSTANTS_ETA_B_UVB3,
+            m,
+            s,
+            c,
+            r,
+            l,
+            density,
+        ),
+        attractive: attractive_perturbation_uvb3::helmholtz_energy_density(m, s, c, l, d, density),
     }
 }
