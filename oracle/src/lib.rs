@@ -5,6 +5,7 @@ pub mod answer;
 pub mod constants;
 pub mod double;
 pub mod failure;
+pub mod figures;
 pub mod generator;
 pub mod program;
 pub mod random;

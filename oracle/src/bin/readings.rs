@@ -5,7 +5,7 @@
 use oracle::answer::{ends, energies};
 use oracle::reading::check::{Answers, ENERGIES, Finding, check};
 use oracle::reading::roots::{Choice, POLICIES, policy};
-use oracle::record::{self, Case, length};
+use oracle::record::{self, Case, split};
 use std::io::{Read, Result, stdin};
 use std::process::ExitCode;
 use std::time::Instant;
@@ -32,7 +32,7 @@ fn main() -> Result<ExitCode> {
     let mut input = Vec::new();
     stdin().read_to_end(&mut input)?;
     let mut counts = Counts::default();
-    for record in records(&input) {
+    for record in split(&input) {
         counts.records += 1;
         if let Some((case, answers)) = with_ends(record) {
             counts.with_ends += 1;
@@ -49,16 +49,6 @@ fn policies(arguments: &[String]) -> Option<Vec<Policy>> {
         [flag, name] if flag == "--policy" => policy(name).map(|policy| vec![policy]),
         _ => None,
     }
-}
-
-/// The whole records, one after the other.
-fn records(mut rest: &[u8]) -> impl Iterator<Item = &[u8]> {
-    std::iter::from_fn(move || {
-        let size = if rest.len() < 2 { return None } else { length(rest) + 2 };
-        let (record, after) = rest.split_at_checked(size)?;
-        rest = after;
-        Some(record)
-    })
 }
 
 /// The case of a record that has ends, and its answers.

@@ -93,7 +93,10 @@ impl Mul for Enclosure {
             return -(self * -b);
         }
         if !self.lower.is_negative() && !b.lower.is_negative() {
-            return Self { lower: self.lower.mul(b.lower, Down), upper: self.upper.mul(b.upper, Up) };
+            return Self {
+                lower: self.lower.mul(b.lower, Down),
+                upper: self.upper.mul(b.upper, Up),
+            };
         }
         // At least one has numbers of both signs.
         let lower = self.lower.mul(b.upper, Down).min(self.upper.mul(b.lower, Down));

@@ -3,7 +3,7 @@
 
 pub mod big;
 pub mod check;
-mod enclosure;
+pub mod enclosure;
 pub mod notes;
 mod recipes;
 pub mod roots;
