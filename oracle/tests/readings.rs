@@ -4,8 +4,9 @@ use oracle::answer::{ends, energies};
 use oracle::random::Random;
 use oracle::range::Range;
 use oracle::reading::Reading;
-use oracle::reading::big::Big;
+use oracle::reading::big::{Big, Rounding::Down};
 use oracle::reading::check::{Answers, Finding, check};
+use oracle::reading::enclosure::Enclosure;
 use oracle::reading::notes::{Notes, with_roots};
 use oracle::reading::roots::{Choice, POLICIES};
 use oracle::record::Case;
@@ -82,9 +83,96 @@ fn exact_values_of_the_recipes() {
     equals(Reading::ln, 4.0, 2.0 * std::f64::consts::LN_2);
 }
 
+type Expected = (fn(Reading) -> Reading, f64, f64, &'static str, i64);
+
+/// Function, argument, and the exact value: sign, 256 bits, exponent of the last of them. Made by
+/// tests/expected/recipes.py in Python's fractions.
+const EXPECTED: [Expected; 9] = [
+    (
+        Reading::ln,
+        3.0,
+        1.0,
+        "8c9f53d56818531083d890e5d8f90e5eeb204c8e52194ad8dc2388a5fd2e5b80",
+        -255,
+    ),
+    (
+        Reading::ln,
+        0.7,
+        -1.0,
+        "b69e192709fa7bfc9c82d87ec1f7d7e9914c560644de16c770e45ac54b82b29c",
+        -257,
+    ),
+    (
+        Reading::ln_1p,
+        0.2,
+        1.0,
+        "bab2808f24b3b472da22d4417070dc8aec180d46b9fef46cd1f68f679893df87",
+        -258,
+    ),
+    (
+        Reading::ln_1p,
+        3.0,
+        1.0,
+        "b17217f7d1cf7800000000000000000000000000000000000000000000000000",
+        -255,
+    ),
+    (
+        Reading::exp,
+        0.3,
+        1.0,
+        "acc82c6460d4ac90ff1b9778e9b1bf61292d86085920c943f0b36f965a86604b",
+        -255,
+    ),
+    (
+        Reading::exp,
+        -12.5,
+        1.0,
+        "fa1769fb473481087f9da83e5b55d781e3e82447b8be35a4acac251b4dbea9b9",
+        -274,
+    ),
+    (
+        Reading::tanh,
+        0.7,
+        1.0,
+        "9ab7d8bd797485fd0988286b0650f1e83fb1ddea47f7aab6dd62b87ed5182068",
+        -256,
+    ),
+    (
+        |v| v.powf(point(-2.5)),
+        1.7,
+        1.0,
+        "87e0a61771a498350b8aef7dff4d07ac87b4bff7f2517bcdea648b0cfaf75bdf",
+        -257,
+    ),
+    (
+        |v| v.powf(point(-2.5)),
+        0.01,
+        1.0,
+        "c34fffffffffe6d72fa8a6d2a43d647394cded096ac9bdd743819bb00ddbfe87",
+        -239,
+    ),
+];
+
+#[test]
+fn recipes_are_those_of_fractions() {
+    for (f, v, sign, bits, exponent) in EXPECTED {
+        let halves = (0..8).map(|at| u32::from_str_radix(&bits[8 * at..8 * at + 8], 16));
+        let expected = halves.fold(Big::ZERO, |sum, half| {
+            sum.scaled(32).add(Big::from_double(half.expect("digits") as f64), Down)
+        });
+        let exact = work(|| f(point(v))).0.exact() * Enclosure::double(sign);
+        let apart = exact - Enclosure::point(expected.scaled(exponent));
+        let unit = Big::from_double(1.0).scaled(exponent);
+        // The expected bits are cut off, and both bounds are rounded at every operation.
+        let small = [-unit.scaled(12), unit.scaled(12)];
+        assert!(apart.lies_within(small), "at {v}");
+    }
+}
+
 #[test]
 fn recipes_lie_within_their_ranges() {
-    let functions: [(fn(Reading) -> Reading, [f64; 2]); 5] = [
+    type Function = fn(Reading) -> Reading;
+    let functions: [(Function, [f64; 2]); 5] = [
         (Reading::ln, [0.01, 100.0]),
         (Reading::ln_1p, [-0.99, 10.0]),
         (Reading::exp, [-705.0, 700.0]),
