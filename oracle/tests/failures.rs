@@ -2,7 +2,6 @@
 
 use oracle::answer::failing_rule;
 use oracle::failure::{Rule, or_first_failure};
-use oracle::figures::{MOST, certified};
 use oracle::range::Range;
 use oracle::record::Case;
 use oracle::shims::num_dual::DualNum;
@@ -77,16 +76,4 @@ fn twelve_six_fails_at_the_power_of_the_minimum() {
     let place = exponent() * point(std::f64::consts::LOG2_E) + point(0.5);
     assert!(place.lower < 0.0 && place.upper > 0.0);
     assert_eq!(rule(|| minimum().powd(-att + point(3.0))), Some(Rule::TwoK));
-}
-
-#[test]
-fn certified_figures() {
-    assert_eq!(certified(1.0, 1.0 + 1e-12), 11);
-    assert_eq!(certified(1.0, 1.0 + 0.9e-12), 12);
-    assert_eq!(certified(-2.5, -2.0), 0);
-    assert_eq!(certified(-2.0, -1.9), 1);
-    assert_eq!(certified(-1.0, 1.0), 0);
-    assert_eq!(certified(0.0, 1e-300), 0);
-    assert_eq!(certified(0.0, 0.0), MOST);
-    assert_eq!(certified(2.0, 2.0_f64.next_up()), 15);
 }

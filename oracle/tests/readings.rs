@@ -1,6 +1,7 @@
 //! Exact readings: their recipes, their roots, and that the check of a record notices slips.
 
 use oracle::answer::{ends, energies};
+use oracle::over_readings::contributions;
 use oracle::random::Random;
 use oracle::range::Range;
 use oracle::reading::Reading;
@@ -48,6 +49,19 @@ fn nothing_is_found_on_a_record_with_ends() {
             let (findings, notes) = check(&case, &answers(&case), roots, 1);
             assert_eq!(findings, [], "{name}");
             assert!(notes.roots > 0 && notes.places > 500);
+        }
+    }
+}
+
+/// The ranges that a reading carries are those of the ends, whatever its roots are.
+#[test]
+fn the_ranges_beside_a_reading_are_the_ends() {
+    for perturbation in [0, 1, 2] {
+        let case = argon_and_methane(perturbation);
+        for (_, roots) in POLICIES {
+            let (readings, _) = with_roots(roots, 1, || contributions(&case));
+            let ends = readings.map(|reading| [reading.range().lower, reading.range().upper]);
+            assert_eq!(ends.as_flattened(), answers(&case).ends);
         }
     }
 }
@@ -209,8 +223,7 @@ fn without_result_and_undecided() {
 
 /// Two doubles next to each other with the reading between them.
 fn around(case: &Case, k: usize) -> [f64; 2] {
-    let work = || oracle::over_readings::contributions(case);
-    let exact = with_roots(POLICIES[0].1, 1, work).0[k].exact();
+    let exact = with_roots(POLICIES[0].1, 1, || contributions(case)).0[k].exact();
     let mut below = answers(case).ends[2 * k];
     while Big::from_double(below.next_up()) <= exact.lower {
         below = below.next_up();
