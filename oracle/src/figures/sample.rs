@@ -14,12 +14,12 @@ const TWELVE: (&str, [f64; 2]) = ("12-6, 12-6", [12.0, 12.0]);
 
 const K_IJ: [f64; 2] = [0.0, 0.01];
 
-/// A case whose values are drawn,
+/// Where a drawn temperature lies.
 const TEMPERATURE: [f64; 2] = [100.0, 500.0];
-/// where one decade of density is taken as often as another; the last is a part of one.
+/// Where a drawn density lies: each of the three as often as another.
 const DECADES: [[f64; 2]; 3] = [[1e-4, 1e-3], [1e-3, 1e-2], [1e-2, 0.02]];
 
-/// or one of the grid of round values: 100, 110, .. 500 K; fractions 0, 0.1, .. 1.
+/// The grid of round values has 100, 110, .. 500 K, these densities and the fractions 0, 0.1, .. 1.
 const TENS: std::ops::RangeInclusive<u32> = 10..=50;
 const DENSITIES: [f64; 9] = [1e-4, 2e-4, 5e-4, 1e-3, 2e-3, 5e-3, 0.01, 0.015, 0.02];
 const TENTHS: std::ops::RangeInclusive<u32> = 0..=10;

@@ -15,14 +15,15 @@ pub const ENERGIES: [&str; 3] = ["hard sphere", "reference", "attractive"];
 pub enum Finding {
     /// An enclosure leaves a case, or a comparison below, open.
     Undecided,
+    /// A divisor of 0, or an argument without a rule.
     NoResult,
     /// So many values do not lie within the ranges of their places.
     Places(u64),
-    /// The reading of this energy is not between the ends,
+    /// The reading of this energy is not between its ends.
     Reading(usize),
-    /// nor is its double,
+    /// The double of this energy is not between its ends.
     Double(usize),
-    /// or the two are further apart than the ends.
+    /// Reading and double of this energy are further apart than its ends.
     Distance(usize),
 }
 
