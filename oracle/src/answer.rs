@@ -1,6 +1,6 @@
 //! The single call: one case record in, one answer at the start of the buffer.
 
-use crate::failure::unless_failed;
+use crate::failure::{Rule, or_first_failure, unless_failed};
 use crate::record::{self, Case, code};
 use crate::{over_doubles, over_ranges};
 
@@ -36,6 +36,11 @@ pub fn ends(case: &Case) -> Result<[f64; 6], u8> {
     let ranges = unless_failed(|| over_ranges::contributions(case)).ok_or(code::ENDS)?;
     let [a, b, c] = ranges;
     Ok([a.lower, a.upper, b.lower, b.upper, c.lower, c.upper])
+}
+
+/// The rule for ranges that fails first on the case, if one does.
+pub fn failing_rule(case: &Case) -> Option<Rule> {
+    or_first_failure(|| over_ranges::contributions(case)).err()
 }
 
 /// Writes an answer and returns its code; the bytes past it are untouched.

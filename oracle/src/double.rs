@@ -2,7 +2,7 @@
 //! NaN, when its result is not finite or a function has no rule for its argument.
 
 use crate::constants::*;
-use crate::failure::fail;
+use crate::failure::{Rule, fail};
 use crate::shims::num_dual::{DualNum, assigning, horner};
 use std::ops::{Add, Div, Mul, Neg, Sub};
 
@@ -30,12 +30,12 @@ const ONE: Double = Double(1.0);
 const TWO: Double = Double(2.0);
 
 fn finite(v: f64) -> Double {
-    if v.is_finite() { Double(v) } else { failed() }
+    if v.is_finite() { Double(v) } else { failed(Rule::NotFinite) }
 }
 
 /// For a result that is not finite and for an argument without a rule.
-fn failed() -> Double {
-    fail();
+fn failed(rule: Rule) -> Double {
+    fail(rule);
     Double(f64::NAN)
 }
 
@@ -98,12 +98,12 @@ impl DualNum for Double {
 
     fn sqrt(self) -> Self {
         // The library's square root is IEEE 754's.
-        if self.0 < 0.0 { failed() } else { finite(self.0.sqrt()) }
+        if self.0 < 0.0 { failed(Rule::Root) } else { finite(self.0.sqrt()) }
     }
 
     fn ln(self) -> Self {
         if self.0.is_nan() || self.0 <= 0.0 {
-            return failed();
+            return failed(Rule::Base);
         }
         let (m, e) = mantissa_and_exponent(self.0);
         let s = (Double(m) - ONE) / (Double(m) + ONE);
@@ -112,7 +112,7 @@ impl DualNum for Double {
 
     fn ln_1p(self) -> Self {
         if self.0 <= -1.0 {
-            failed()
+            failed(Rule::LogarithmArgument)
         } else if (-0.25..=0.25).contains(&self.0) {
             logarithm_series(self / (TWO + self))
         } else {
@@ -125,7 +125,7 @@ impl DualNum for Double {
             return Self(0.0);
         }
         if self.0.is_nan() || self.0 > 700.0 {
-            return failed();
+            return failed(Rule::ExpAbove);
         }
         let k = (self * Double(E) + Double(0.5)).0.floor();
         let r = (self - Double(k) * Double(H)) - Double(k) * Double(G);
@@ -134,7 +134,7 @@ impl DualNum for Double {
 
     fn powd(self, b: Self) -> Self {
         if self.0 == 0.0 {
-            return if b.0 > 0.0 { Self(0.0) } else { failed() };
+            return if b.0 > 0.0 { Self(0.0) } else { failed(Rule::Base) };
         }
         (b * self.ln()).exp()
     }

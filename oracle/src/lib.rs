@@ -1,14 +1,16 @@
-//! The Rust that Noddyfir ports, compiled over doubles and over ranges, with document 01's records,
-//! answers and runs around it.
+//! The Rust that Noddyfir ports, compiled over doubles, over ranges and over exact readings, with
+//! document 01's records, answers and runs around it.
 
 pub mod answer;
 pub mod constants;
 pub mod double;
 pub mod failure;
+pub mod figures;
 pub mod generator;
 pub mod program;
 pub mod random;
 pub mod range;
+pub mod reading;
 pub mod record;
 pub mod run;
 pub mod stored;
@@ -26,5 +28,12 @@ pub mod over_doubles {
 #[allow(dead_code, unused_imports, unfulfilled_lint_expectations, clippy::duplicate_mod)]
 pub mod over_ranges {
     use crate::range::Range as Number;
+    include!("contributions.rs");
+}
+
+/// The ported text over exact readings beside ranges.
+#[allow(dead_code, unused_imports, unfulfilled_lint_expectations, clippy::duplicate_mod)]
+pub mod over_readings {
+    use crate::reading::Reading as Number;
     include!("contributions.rs");
 }

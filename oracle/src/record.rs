@@ -80,6 +80,16 @@ pub fn length(record: &[u8]) -> usize {
     u16::from_be_bytes([record[0], record[1]]) as usize
 }
 
+/// The whole records, or answers, one after the other.
+pub fn split(mut rest: &[u8]) -> impl Iterator<Item = &[u8]> {
+    std::iter::from_fn(move || {
+        let size = if rest.len() < 2 { return None } else { length(rest) + 2 };
+        let (first, after) = rest.split_at_checked(size)?;
+        rest = after;
+        Some(first)
+    })
+}
+
 fn fields(perturbation: u8, n: usize, bytes: &[u8]) -> Case {
     let mut values = bytes
         .chunks_exact(8)

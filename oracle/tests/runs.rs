@@ -1,5 +1,6 @@
 //! Runs, and the two programs on standard input.
 
+use oracle::record::split;
 use oracle::run::{Run, run_ends, run_energies};
 use oracle::{generator, random::Random, stored};
 use std::io::Write;
@@ -76,22 +77,30 @@ fn programs() {
 }
 
 #[test]
+fn the_program_of_readings() {
+    let mut random = Random::new(5);
+    let records: Vec<u8> =
+        generator::KINDS.iter().flat_map(|(_, kind)| kind(&mut random)).collect();
+    let path = env!("CARGO_BIN_EXE_readings");
+    for (arguments, each) in [(&[][..], 4), (&["--policy", "middle"], 1)] {
+        let printed = String::from_utf8(program(path, arguments, &records)).expect("text");
+        let numbers = |word: &str| -> usize {
+            let before = printed.split(word).next().expect("the line has the word");
+            before.split(' ').next_back().and_then(|n| n.parse().ok()).expect("a number")
+        };
+        assert_eq!(numbers(" records,"), generator::KINDS.len());
+        assert_eq!(numbers(" readings with"), each * numbers(" with ends"));
+        assert_eq!(numbers(" violations"), 0);
+    }
+}
+
+#[test]
 fn the_stored_list_fits_a_run() {
     let records = stored::records();
     assert!(records.len() <= 65_536);
     let answers = program(env!("CARGO_BIN_EXE_ends"), &[], &records);
-    let codes: Vec<u8> = answers_in(&answers).map(|answer| answer[3]).collect();
+    let codes: Vec<u8> = split(&answers).map(|answer| answer[3]).collect();
     assert!((2..=10).chain([0]).all(|code| codes.contains(&code)));
-}
-
-/// Splits a sequence of records or answers.
-fn answers_in(mut bytes: &[u8]) -> impl Iterator<Item = &[u8]> {
-    std::iter::from_fn(move || {
-        let size = 2 + u16::from_be_bytes(*bytes.first_chunk()?) as usize;
-        let (first, rest) = bytes.split_at(size);
-        bytes = rest;
-        Some(first)
-    })
 }
 
 #[test]

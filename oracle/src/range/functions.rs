@@ -3,6 +3,7 @@
 
 use super::Range;
 use crate::constants::*;
+use crate::failure::Rule;
 use crate::shims::num_dual::{DualNum, horner};
 
 const TWO: Range = Range::point(2.0);
@@ -39,18 +40,18 @@ impl DualNum for Range {
         } else if self.lower >= 0.0 {
             Self::outwards(self.lower.sqrt(), self.upper.sqrt())
         } else {
-            Self::failed()
+            Self::failed(Rule::Root)
         }
     }
 
     fn ln(self) -> Self {
         if self.lower.is_nan() || self.lower <= 0.0 {
-            return Self::failed();
+            return Self::failed(Rule::Base);
         }
         let (lower, e) = mantissa_and_exponent(self.lower);
         let (upper, upper_e) = mantissa_and_exponent(self.upper);
         if e != upper_e {
-            return Self::failed();
+            return Self::failed(Rule::TwoE);
         }
         let m = Self { lower, upper };
         let s = (m - Self::ONE) / (m + Self::ONE);
@@ -62,8 +63,10 @@ impl DualNum for Range {
             logarithm_series(self / (TWO + self))
         } else if self.lower > 0.25 || (self.lower > -1.0 && self.upper < -0.25) {
             (Self::ONE + self).ln()
+        } else if self.lower <= -1.0 {
+            Self::failed(Rule::LogarithmArgument)
         } else {
-            Self::failed()
+            Self::failed(Rule::QuarterSides)
         }
     }
 
@@ -71,10 +74,16 @@ impl DualNum for Range {
         if self.upper < -700.0 {
             return Self::ZERO;
         }
+        if self.lower < -700.0 {
+            return Self::failed(Rule::UnderflowSides);
+        }
+        if self.upper > 700.0 {
+            return Self::failed(Rule::ExpAbove);
+        }
         let t = self * Self::point(E) + Self::point(0.5);
         let k = t.lower.floor();
-        if self.lower < -700.0 || self.upper > 700.0 || k != t.upper.floor() {
-            return Self::failed();
+        if k != t.upper.floor() {
+            return Self::failed(Rule::TwoK);
         }
         let r = (self - Self::point(k) * Self::point(H)) - Self::point(k) * Self::point(G);
         scaled(horner(r, FACTORIAL_RECIPROCALS.map(Self::point)), k)
@@ -95,7 +104,7 @@ impl DualNum for Range {
         } else if self.lower >= -20.0 && self.upper <= 20.0 {
             Self::ONE - TWO / ((TWO * self).exp() + Self::ONE)
         } else {
-            Self::failed()
+            Self::failed(Rule::TanhSides)
         }
     }
 }

@@ -3,7 +3,7 @@
 
 mod functions;
 
-use crate::failure::fail;
+use crate::failure::{Rule, fail};
 use crate::shims::num_dual::assigning;
 use std::cmp::Ordering;
 use std::ops::{Add, Div, Mul, Neg, Sub};
@@ -28,8 +28,8 @@ impl Range {
         Self::point(v as f64)
     }
 
-    fn failed() -> Self {
-        fail();
+    fn failed(rule: Rule) -> Self {
+        fail(rule);
         Self { lower: f64::NAN, upper: f64::NAN }
     }
 
@@ -37,7 +37,7 @@ impl Range {
     fn outwards(lower: f64, upper: f64) -> Self {
         let (lower, upper) = (lower.next_down(), upper.next_up());
         if !lower.is_finite() || !upper.is_finite() {
-            return Self::failed();
+            return Self::failed(Rule::NotFinite);
         }
         Self { lower: positive_zero(lower), upper: positive_zero(upper) }
     }
@@ -104,7 +104,7 @@ impl Div for Range {
     type Output = Self;
     fn div(self, b: Self) -> Self {
         if b.holds_zero() {
-            return Self::failed();
+            return Self::failed(Rule::Divisor);
         }
         if self == Self::ZERO {
             return Self::ZERO;
@@ -128,7 +128,7 @@ impl PartialOrd for Range {
         } else if self.lower >= b.upper {
             Some(Ordering::Greater)
         } else {
-            fail();
+            fail(Rule::OmegaSides);
             None
         }
     }
