@@ -1,8 +1,10 @@
-//! Energies per second through the proved static library and through the Rust that it ports, on the
-//! same records in one run. It prints a table and judges no speed: that depends on the machine.
+//! Energies and ends per second through the proved static library and through the Rust that it ports,
+//! on the same records in one run. It prints tables and judges no speed: that depends on the machine.
 
 mod noddyfir;
 mod row;
+mod spread;
+mod table;
 
 use row::Row;
 use std::process::ExitCode;
@@ -20,12 +22,11 @@ fn main() -> ExitCode {
         );
         return ExitCode::FAILURE;
     }
-    println!("The same bytes from both on {records} records. {ROUNDS} rounds.\n");
+    println!("The same energies and ends from both on {records} records. {ROUNDS} rounds.");
     // A round measures every row, so that another program's burst of work does not fall on one row alone.
     for round in 0..ROUNDS {
         rows.iter_mut().for_each(|row| row.measure(round));
     }
-    println!("{}", row::HEADING);
-    rows.iter().for_each(|row| println!("{row}"));
+    table::print(&rows);
     ExitCode::SUCCESS
 }
