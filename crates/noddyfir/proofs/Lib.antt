@@ -3,4 +3,4 @@ pub mod Answers
 pub mod Running
 pub mod Apart
 pub mod Cases
-pub mod Ends
+pub mod Guarantee

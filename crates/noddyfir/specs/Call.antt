@@ -48,9 +48,13 @@ okOr10 e = cond (ok (e .hard-sphere) && ok (e .reference) && ok (e .attractive))
 unfoldable pub endsOf : Case → Ends
 endsOf c = okOr10 (residual-helmholtz-energy-contributions ranges (c .perturbation) (parameters ranges (c .mixture)) (state ranges (c .state)))
 
--- "Place, in order": a record whose energies are refused is refused with their code, 9 among them, and only then can the ends be
+-- "Place, in order": what refuses the energies refuses the ends, with its code; 9 comes before 10
+abbrev pub afterEnergies : Energies → Ends → Ends
+afterEnergies (Values x y z) ends = ends
+afterEnergies (Refused code) ends = NoEnds code
+
 unfoldable pub endsAnswerOf : List ℕ → Ends
-endsAnswerOf s = cond (eqb (codeOf (answerOf s)) 0) (endsOf (caseOf s)) (NoEnds (codeOf (answerOf s)))
+endsAnswerOf s = afterEnergies (answerOf s) (endsOf (caseOf s))
 
 abbrev pub endsAnswer : List ℕ → List ℕ
 endsAnswer s = endsBytes (endsAnswerOf s)

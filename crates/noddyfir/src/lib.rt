@@ -1,7 +1,9 @@
-// The public calls: the energies of one case, and of a run of cases.
+// The public calls: the energies of one case, and of a run of cases, and their ends.
 pub mod call;
 pub mod run;
 
+pub use call::ends;
 pub use call::energies;
 pub use run::Run;
+pub use run::run_ends;
 pub use run::run_energies;

@@ -2,9 +2,9 @@
 ghost use mathlib.Core.Path.{_≡_};
 ghost use Prim.Native.Nat.{_≤_};
 ghost use lib.ListN.{length};
-ghost use Rattle.noddyfir.specs.Call.{energiesAnswer};
+ghost use Rattle.noddyfir.specs.Call.{answerTo, endsAnswer, energiesAnswer, roomOf};
 ghost use Rattle.noddyfir.specs.Run.{nextAt, runOf, sizeOf};
-use crate::call::energies;
+use crate::call::answer_to;
 use case_record::bytes::big_endian2;
 
 // Records done, bytes read, bytes written, and why the run stopped: 0 input used up, 2 broken tail, 1 no room for an answer.
@@ -53,6 +53,13 @@ fn stopped(records: usize, read: usize, written: usize, reason: u8) -> Run
     }
 }
 
+// How many bytes an answer may need.
+fn room_of(with_ends: bool) -> usize
+    ensures { λ r. ⌜ r ≡ roomOf «with_ends» ⌝ }
+{
+    if with_ends { 52 } else { 28 }
+}
+
 // How many bytes an answer with this code has.
 fn answer_size(room: usize, code: u8) -> usize
     requires { ⌜ 4 ≤ room ⌝ }
@@ -61,13 +68,13 @@ fn answer_size(room: usize, code: u8) -> usize
     if code == 0 { room } else { 4 }
 }
 
-// Answers the records one after the other: each answer is written where the one before it ended. `within` follows from the outcome and is stated
-// for callers, who lend the rest of the records and read the answers.
-#[no_mangle]
-pub extern "C" fn run_energies(records: &[u8], answers: &mut [u8]) -> Run
-    ensures { λ r. ⌜ (r ≡ runOf 28 energiesAnswer (now (records .entry)) (now (answers .entry)) .run) × (now (answers .exit) ≡ runOf 28 energiesAnswer (now (records .entry)) (now (answers .entry)) .answers) ⌝ }
+// Answers the records one after the other, each with its energies or with its ends: each answer is written where the one before it ended. `within` follows
+// from the outcome and is stated for callers, who lend the rest of the records and read the answers.
+pub fn run_records(with_ends: bool, records: &[u8], answers: &mut [u8]) -> Run
+    ensures { λ r. ⌜ (r ≡ runOf (roomOf «with_ends») (answerTo «with_ends») (now (records .entry)) (now (answers .entry)) .run) × (now (answers .exit) ≡ runOf (roomOf «with_ends») (answerTo «with_ends») (now (records .entry)) (now (answers .entry)) .answers) ⌝ }
     ensures within { λ r. ⌜ (r .read ≤ length (now (records .entry))) × (r .written ≤ length (now (answers .exit))) ⌝ }
 {
+    let room = room_of(with_ends);
     let mut done = 0;
     let mut read = 0;
     let mut written = 0;
@@ -80,15 +87,31 @@ pub extern "C" fn run_energies(records: &[u8], answers: &mut [u8]) -> Run
                 return stopped(done, read, written, 2);
             }
             Next::Whole(size) => {
-                if answers.len() - written < 28 {
+                if answers.len() - written < room {
                     return stopped(done, read, written, 1);
                 }
                 let end = read + size;
-                let code = energies(&records[read..end], &mut answers[written..]);
-                written += answer_size(28, code);
+                let code = answer_to(with_ends, &records[read..end], &mut answers[written..]);
+                written += answer_size(room, code);
                 read = end;
                 done += 1;
             }
         }
     }
+}
+
+#[no_mangle]
+pub extern "C" fn run_energies(records: &[u8], answers: &mut [u8]) -> Run
+    ensures { λ r. ⌜ (r ≡ runOf 28 energiesAnswer (now (records .entry)) (now (answers .entry)) .run) × (now (answers .exit) ≡ runOf 28 energiesAnswer (now (records .entry)) (now (answers .entry)) .answers) ⌝ }
+    ensures within { λ r. ⌜ (r .read ≤ length (now (records .entry))) × (r .written ≤ length (now (answers .exit))) ⌝ }
+{
+    run_records(false, records, answers)
+}
+
+#[no_mangle]
+pub extern "C" fn run_ends(records: &[u8], answers: &mut [u8]) -> Run
+    ensures { λ r. ⌜ (r ≡ runOf 52 endsAnswer (now (records .entry)) (now (answers .entry)) .run) × (now (answers .exit) ≡ runOf 52 endsAnswer (now (records .entry)) (now (answers .entry)) .answers) ⌝ }
+    ensures within { λ r. ⌜ (r .read ≤ length (now (records .entry))) × (r .written ≤ length (now (answers .exit))) ⌝ }
+{
+    run_records(true, records, answers)
 }

@@ -5,7 +5,7 @@ use mathlib.Core.Path.{_≡_, refl, sym, subst, _∙_}
 use mathlib.Core.Bool.{Bool, true, false, cond, _&&_}
 use mathlib.Core.List.{List}
 use native.Mathlib.Omega.{arith}
-use lib.Dec.{T, eqb, eqb→eq}
+use lib.Dec.{T}
 use lib.Ieee.{Float}
 use lib.Ieee.Scale.{finite}
 use Rattle.arithmetic.specs.Arithmetic.{Arithmetic}
@@ -24,15 +24,15 @@ use Rattle.uvtheory.specs.Contributions.{Contributions}
 use Rattle.uvtheory.specs.Eos.{residual-helmholtz-energy-contributions}
 use Rattle.uvtheory.specs.Rows.{row, place, parameters, state}
 use Rattle.uvtheory.proofs.Kept.{Related, contributions-kept}
+use Rattle.case_record.specs.declared.answer.Energies.{Energies}
 use Rattle.case_record.specs.declared.answer.Energies.the-variants.{Values, Refused}
 use Rattle.case_record.specs.declared.answer.Ends.the-variants.{Values as Ranges, Refused as NoEnds}
 use Rattle.case_record.specs.declared.case.Case.{Case}
 use Rattle.case_record.specs.Record.{caseOf}
 use Rattle.case_record.specs.Checks.{refusalOf}
-use Rattle.case_record.specs.Answer.{codeOf}
-use Rattle.noddyfir.specs.Call.{answerOf, energiesOf, finiteOr9, endsOf, endsAnswerOf, okOr10}
-use Rattle.noddyfir.specs.Ends.{readingOf, less, ReadingHeld, EnergyHeld, EndsHold}
-use Rattle.noddyfir.proofs.Answers.{accepted}
+use Rattle.noddyfir.specs.Call.{answerOf, energiesOf, finiteOr9, afterEnergies, endsOf, endsAnswerOf, okOr10}
+use Rattle.noddyfir.specs.Guarantee.{readingOf, less, ReadingHeld, EnergyHeld, EndsHold}
+use Rattle.noddyfir.proofs.Answers.{accepted, passed}
 
 -- the three energies of a case in any arithmetic
 abbrev energiesIn : (A : Arithmetic) → Case → Contributions (A .Value)
@@ -94,22 +94,14 @@ three e {h} {r} {a} = go (ok (e .hard-sphere)) (ok (e .reference)) (ok (e .attra
     go true false d p q t z = no-ends z
     go false c d p q t z = no-ends z
 
--- the energies have a result, and the ends are those of the case
-its-ends : (s : List ℕ) {h r a : Range} → endsAnswerOf s ≡ Ranges h r a → (codeOf (answerOf s) ≡ 0) × (endsOf (caseOf s) ≡ Ranges h r a)
+-- no check refuses the record, and the ends are those of its case
+its-ends : (s : List ℕ) {h r a : Range} → endsAnswerOf s ≡ Ranges h r a → (refusalOf s ≡ 0) × (endsOf (caseOf s) ≡ Ranges h r a)
 unfolding endsAnswerOf
-its-ends s {h} {r} {a} = go (eqb (codeOf (answerOf s)) 0) refl
+its-ends s {h} {r} {a} = go (answerOf s) refl
   where
-    go : (b : Bool) → eqb (codeOf (answerOf s)) 0 ≡ b → cond b (endsOf (caseOf s)) (NoEnds (codeOf (answerOf s))) ≡ Ranges h r a → (codeOf (answerOf s) ≡ 0) × (endsOf (caseOf s) ≡ Ranges h r a)
-    go true e z = (eqb→eq (codeOf (answerOf s)) 0 (subst T (sym e) tt), z)
-    go false e z = no-ends z
-
-passed : (s : List ℕ) → codeOf (answerOf s) ≡ 0 → refusalOf s ≡ 0
-unfolding answerOf
-passed s = go (eqb (refusalOf s) 0) refl
-  where
-    go : (b : Bool) → eqb (refusalOf s) 0 ≡ b → codeOf (cond b (energiesOf (caseOf s)) (Refused (refusalOf s))) ≡ 0 → refusalOf s ≡ 0
-    go true e z = eqb→eq (refusalOf s) 0 (subst T (sym e) tt)
-    go false e z = z
+    go : (e : Energies) → answerOf s ≡ e → afterEnergies e (endsOf (caseOf s)) ≡ Ranges h r a → (refusalOf s ≡ 0) × (endsOf (caseOf s) ≡ Ranges h r a)
+    go (Values x y z) e q = (passed s e, q)
+    go (Refused code) e q = no-ends q
 
 all-finite : (e : Contributions Float) → T (finite (e .hard-sphere)) → T (finite (e .reference)) → T (finite (e .attractive)) → finiteOr9 e ≡ Values (e .hard-sphere) (e .reference) (e .attractive)
 unfolding finiteOr9
@@ -138,7 +130,7 @@ ends-hold s h r a e =
       x = d .hard-sphere;
       y = d .reference;
       z = d .attractive;
-      energies = accepted s (passed s (result .0)) ∙ all-finite d (x .finite) (y .finite) (z .finite);
+      energies = accepted s (result .0) ∙ all-finite d (x .finite) (y .finite) (z .finite);
       hard-sphere-held = subst (λ (i : Range). EnergyHeld i (d .hard-sphere) (readingOf c .hard-sphere)) (t .hard-sphere-is) (held (holds .hard-sphere-is) (carries .hard-sphere-is) (t .hard-sphere-ok));
       reference-held = subst (λ (i : Range). EnergyHeld i (d .reference) (readingOf c .reference)) (t .reference-is) (held (holds .reference-is) (carries .reference-is) (t .reference-ok));
       attractive-held = subst (λ (i : Range). EnergyHeld i (d .attractive) (readingOf c .attractive)) (t .attractive-is) (held (holds .attractive-is) (carries .attractive-is) (t .attractive-ok));
