@@ -188,5 +188,9 @@ pub some-room : (ends : Bool) → 4 ≤ roomOf ends
 some-room false = omega arith
 some-room true = omega arith
 
+pub small-room : (ends : Bool) → roomOf ends ≤ 52
+small-room false = omega arith
+small-room true = omega arith
+
 pub answers-fit : (ends : Bool) (s : List ℕ) → length (answerTo ends s) ≤ roomOf ends
 answers-fit ends s = subst⁻¹ (λ (n : ℕ). n ≤ roomOf ends) (answers-sized ends s) (size-fits (roomOf ends) (codeTo ends s) (some-room ends))

@@ -3,14 +3,14 @@ use Prim.Native.Nat.{_-_, _≤_}
 use native.Mathlib.Omega.{arith}
 use borrow.Author.Needs.{needs}
 use lib.ListN.{length}
-use Rattle.energies.proofs.answer_all.Statement.{statement}
-use Rattle.energies.proofs.answer_all.Tie as tie
+use Rattle.program.proofs.answer_all.Statement.{statement}
+use Rattle.program.proofs.answer_all.Tie as tie
 
 abbrev Inv-loop : tie.InvT-loop
-Inv-loop input at₀ at = at ≤ length input
+Inv-loop ends input at₀ at = at ≤ length input
 
 abbrev μ-loop : tie.MeasureT-loop
-μ-loop input at₀ at = length input - at
+μ-loop ends input at₀ at = length input - at
 
 loop-less : tie.Need-loop-less Inv-loop μ-loop
 loop-less c =

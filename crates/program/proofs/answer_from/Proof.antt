@@ -5,13 +5,14 @@ use native.Mathlib.Omega.{arith}
 use lib.ListN.{drop, length, take}
 use borrow.Author.Needs.{needs}
 use lib.Seq.{length-take-le}
-use Rattle.noddyfir.specs.Call.{energiesAnswer}
+use Rattle.noddyfir.specs.Call.{answerTo, roomOf}
 use Rattle.noddyfir.proofs.Running.{progress}
-use Rattle.energies.proofs.answer_from.Statement.{statement}
-use Rattle.energies.proofs.answer_from.Tie as tie
+use Rattle.noddyfir.proofs.Answers.{small-room}
+use Rattle.program.proofs.answer_from.Statement.{statement}
+use Rattle.program.proofs.answer_from.Tie as tie
 
 slice-aggregate-write-all : tie.Need-slice-aggregate-write-all
-slice-aggregate-write-all c = sym (length-take-le _ _ (c .before .before .run-energies .ensures .1 .1))
+slice-aggregate-write-all c = sym (length-take-le _ _ (c .before .before .run-records .ensures .1 .1))
 
 returns : tie.Need-returns
 returns c =
@@ -19,8 +20,9 @@ returns c =
     let b = r .before .before .before in
     let s = b .before .before .args .input .now in
     let at = b .before .before .args .at in
-    let room : 28 ≤ length (b .buffer .result) = omega (arith, b .buffer .ensures) in
-    (search needs, λ h. progress 28 energiesAnswer (take (length s - at) (drop at s)) (b .buffer .result) (r .run-energies .result) (r .run-energies .ensures .0 .0) h room)
+    let e = b .before .before .args .with-ends in
+    let room : roomOf e ≤ length (b .buffer .result) = omega (arith, b .buffer .ensures, small-room e) in
+    (search needs, λ h. progress (roomOf e) (answerTo e) (take (length s - at) (drop at s)) (b .buffer .result) (r .run-records .result) (r .run-records .ensures .0 .0) h room)
 
 pub answer-from-spec : {M : Type 1} → statement M
 answer-from-spec =

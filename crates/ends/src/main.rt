@@ -1,0 +1,4 @@
+// Answers the case records of standard input by their ends.
+fn main() {
+    program::answer_input(true);
+}

@@ -1,0 +1,39 @@
+// What the two programs do: they answer the case records of standard input, of which they read at most 65,536 bytes, by energies or by ends.
+ghost use mathlib.Core.Path.{_≡_};
+ghost use Prim.Native.Nat.{_+_, _≤_, _<_};
+ghost use lib.ListN.{length};
+use libc::STDIN_FILENO;
+use libc::STDOUT_FILENO;
+use noddyfir::run::Run;
+use noddyfir::run::run_records;
+
+// Writes the answers of one run, from a position of the input on. A run that stops for space has read a record.
+fn answer_from(with_ends: bool, input: &[u8], at: usize) -> Run
+    requires { ⌜ at ≤ length (now input) ⌝ }
+    ensures { λ r. ⌜ (at + r .read ≤ length (now (input .entry))) × (r .reason ≡ 1 → 0 < r .read) ⌝ }
+{
+    let mut answers = io::buffer();
+    let run = run_records(with_ends, &input[at..], &mut answers);
+    let written = run.written;
+    io::write_all(STDOUT_FILENO, &answers[..written]);
+    run
+}
+
+// Calls the run again from where it stopped for space.
+fn answer_all(with_ends: bool, input: &[u8]) {
+    let mut at = 0;
+    loop {
+        let run = answer_from(with_ends, input, at);
+        let read = run.read;
+        if run.reason != 1 {
+            return;
+        }
+        at += read;
+    }
+}
+
+pub fn answer_input(with_ends: bool) {
+    let mut input = io::large_buffer();
+    let n = io::read_full(STDIN_FILENO, &mut input);
+    answer_all(with_ends, &input[..n]);
+}
