@@ -59,7 +59,7 @@ fn exp_of(v: Range, k: i64) -> Range
 {
     let w = Range::point(k as f64);
     let r = v.sub(w.mul(Range::point(H))).sub(w.mul(Range::point(G)));
-    scale(horner(r, &FACTORIALS), k)
+    scale(horner(&FACTORIALS, r), k)
 }
 
 // exp of a range from -700 to 700. Both ends of the range of v * E + 0.5 must have the floor k; it holds that number for the lower end, so only that one's k can serve.

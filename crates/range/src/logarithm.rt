@@ -15,7 +15,7 @@ ghost use Rattle.range.specs.Rules.{rules, ranges};
 fn series(s: Range) -> Range
     ensures { λ r. ⌜ r ≡ R.series rules s ⌝ }
 {
-    Range::point(2.0).mul(s).mul(horner(s.mul(s), &ODDS))
+    Range::point(2.0).mul(s).mul(horner(&ODDS, s.mul(s)))
 }
 
 // ln of m * 2^e.
