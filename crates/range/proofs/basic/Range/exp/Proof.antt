@@ -1,14 +1,11 @@
-use mathlib.Core.Path.{_≡_, sym, _∙_}
-use mathlib.Core.Bool.{true, false}
-use lib.Dec.{T}
+use mathlib.Core.Path.{sym, _∙_}
 use lib.Ieee.{ofBits, neg}
-use Rattle.arithmetic.specs.Value.{value}
-use Rattle.arithmetic.specs.Basic.{below, above, passes}
+use Rattle.arithmetic.specs.Basic.{below, above}
 use Rattle.arithmetic.specs.Constants as K
 use Rattle.arithmetic.specs.Recipes as R
 use Rattle.arithmetic.proofs.Tests.{below-is, above-is}
 use Rattle.elementary.proofs.Place.{constants}
-use Rattle.range.specs.Rules.{failed, zero, test, rules}
+use Rattle.range.specs.Rules.{failed, zero}
 use Rattle.range.proofs.Corners.{lower-finite}
 use Rattle.range.proofs.Testing.{has-ends, test-else}
 use Rattle.range.proofs.Points.{zero-point}
