@@ -18,16 +18,16 @@ use Rattle.arithmetic.specs.Doubles.{checked, strict}
 use Rattle.arithmetic.proofs.Fraction.{≼-trans, ≼-≺-trans, ≺-not-≼}
 use Rattle.arithmetic.proofs.Cases.{floor-in, floor-is, pick-convex}
 use Rattle.arithmetic.proofs.Agreement.{agreement}
-use Rattle.arithmetic.proofs.Enclosure.{Rounds, mul-rounds}
-use Rattle.elementary.proofs.Place.{place, constants}
+use Rattle.arithmetic.proofs.Enclosure.{Rounds}
+use Rattle.elementary.proofs.Place.{place}
 use Rattle.range.specs.declared.basic.Range.{Range}
 use Rattle.range.specs.Rules.{range, failed, zero, ok, isZero, outwards, four, point, ends, step, before, after}
 use Rattle.range.specs.Rules as Rules
 use Rattle.range.specs.Enclosed.{Ok}
-use Rattle.range.proofs.Corners.{In, AtEnds, lowest, highest, lower-finite, upper-finite, before-fits, after-fits, low-corners, high-corners}
+use Rattle.range.proofs.Corners.{In, AtEnds, lowest, highest, before-fits, after-fits, low-corners, high-corners, product-ends}
 use Rattle.range.proofs.Contained.{Certain, Contained, zero-doubles, zero-ok, zero-value, in-zero, checked-is, rounded-range-certain, rounded-ends-certain, constant-contained}
 use Rattle.range.proofs.Operations.{zero-times, add-contained}
-use Rattle.range.proofs.Testing.{one-step, two-steps}
+use Rattle.range.proofs.Testing.{has-ends, one-step, two-steps}
 
 abbrev pub places : Range → Range
 places v = Rules.add (Rules.mul v (point K.E)) (point K.half)
@@ -47,16 +47,8 @@ E-nonzero = refl
 
 module _ (v : Range) (fl : T (fits binary64 (v .lower))) where
   module _ (A : Ok v) where
-    rounds : Rounds binary64 (mul binary64 (v .lower) K.E) (value (v .lower) ⊗ value K.E)
-    rounds = mul-rounds binary64 (v .lower) K.E (lower-finite v A) (constants .0)
-
     corners : AtEnds (λ x y. Rounds binary64 (mul binary64 x y) (value x ⊗ value y)) v (range K.E K.E)
-    corners = record {
-      low-low = mul-rounds binary64 (v .lower) K.E (lower-finite v A) (constants .0);
-      low-high = mul-rounds binary64 (v .lower) K.E (lower-finite v A) (constants .0);
-      high-low = mul-rounds binary64 (v .upper) K.E (upper-finite v A) (constants .0);
-      high-high = mul-rounds binary64 (v .upper) K.E (upper-finite v A) (constants .0);
-    }
+    corners = product-ends v (range K.E K.E) A (has-ends (range K.E K.E) E-ok)
 
     abbrev productIf : (zero? : Bool) → Range
     productIf i = cond i zero (four (mul binary64) v (range K.E K.E))
@@ -65,11 +57,11 @@ module _ (v : Range) (fl : T (fits binary64 (v .lower))) where
     unfolding four outwards
     product true I O =
         let z = in-zero (zero-times (value K.E) (zero-value (v .lower) fl (is-true (eq (v .lower) K.zeroD) (and-l (eq (v .lower) K.zeroD) (eq (v .upper) K.zeroD) (I tt))))) in
-        rounded-range-certain (mul binary64 (v .lower) K.E) (value (v .lower) ⊗ value K.E) (value (v .lower) ⊗ value K.E) rounds zero zero-doubles zero-ok z z
+        rounded-range-certain (mul binary64 (v .lower) K.E) (value (v .lower) ⊗ value K.E) (value (v .lower) ⊗ value K.E) (corners .low-low) zero zero-doubles zero-ok z z
     product false I O =
         let l = lowest (mul binary64) v (range K.E K.E) in
         let h = highest (mul binary64) v (range K.E K.E) in
-        rounded-ends-certain (mul binary64 (v .lower) K.E) (value (v .lower) ⊗ value K.E) (value (v .lower) ⊗ value K.E) rounds (before l) (after h) (before-fits l) (after-fits h)
+        rounded-ends-certain (mul binary64 (v .lower) K.E) (value (v .lower) ⊗ value K.E) (value (v .lower) ⊗ value K.E) (corners .low-low) (before l) (after h) (before-fits l) (after-fits h)
         (λ L H.
         let w : Within (before l) (after h) (value (v .lower) ⊗ value K.E) = record {
           low = low-corners (mul binary64) _⊗_ (mul-fits binary64) v (range K.E K.E) corners L .low-low;
