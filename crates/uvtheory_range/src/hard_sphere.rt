@@ -58,12 +58,7 @@ pub fn bmcsl(z0: Range, z1: Range, z2: Range, z3: Range, density: Range) -> Rang
 }
 
 // By the diameters and the density.
-pub fn helmholtz_energy_density(
-    n: usize,
-    diameter: [Range; 8],
-    s: State,
-    density: Range,
-) -> Range
+pub fn helmholtz_energy_density(n: usize, diameter: [Range; 8], s: State, density: Range) -> Range
     requires { ⌜ (n ≤ 8) × (density ≡ ranges .sum n (points (s .«partial_density»))) ⌝ }
     ensures { λ r. ⌜ r ≡ F.helmholtz-energy-density ranges n (row diameter) (state ranges s) ⌝ }
 {
