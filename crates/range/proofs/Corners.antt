@@ -181,6 +181,14 @@ module _ (op : Float → Float → Float) (exact : Fraction → Fraction → Fra
       over x y K h = high-bound (highest op r s) F (op x y) (exact (value x) (value y)) K h p
 
 -- ---- sums, products and quotients of what lies in two ranges
+pub product-ends : (r s : Range) → Ok r → Ok s → AtEnds (λ x y. Rounds binary64 (mul binary64 x y) (value x ⊗ value y)) r s
+product-ends r s A B = record {
+  low-low = mul-rounds binary64 (r .lower) (s .lower) (lower-finite r A) (lower-finite s B);
+  low-high = mul-rounds binary64 (r .lower) (s .upper) (lower-finite r A) (upper-finite s B);
+  high-low = mul-rounds binary64 (r .upper) (s .lower) (upper-finite r A) (lower-finite s B);
+  high-high = mul-rounds binary64 (r .upper) (s .upper) (upper-finite r A) (upper-finite s B);
+}
+
 module _ (r s : Range) (A : Ok r) (B : Ok s) {p q : Fraction} (v : In r p) (w : In s q) where
   pub sum-within : T (finite (before (add binary64 (r .lower) (s .lower)))) → T (finite (after (add binary64 (r .upper) (s .upper))))
       → Within (before (add binary64 (r .lower) (s .lower))) (after (add binary64 (r .upper) (s .upper))) (p ⊕ q)
@@ -199,19 +207,12 @@ module _ (r s : Range) (A : Ok r) (B : Ok s) {p q : Fraction} (v : In r p) (w : 
   pub product-within : T (finite (before (lowest (mul binary64) r s))) → T (finite (after (highest (mul binary64) r s)))
       → Within (before (lowest (mul binary64) r s)) (after (highest (mul binary64) r s)) (p ⊗ q)
   product-within L H =
+      let R = product-ends r s A B in
       let l = low-corners (mul binary64) _⊗_ (mul-fits binary64) r s R L in
       let h = high-corners (mul binary64) _⊗_ (mul-fits binary64) r s R H in
       record {
         low = product-least (v .low) (v .high) (w .low) (w .high) (l .low-low) (l .low-high) (l .high-low) (l .high-high);
         high = product-greatest (v .low) (v .high) (w .low) (w .high) (h .low-low) (h .low-high) (h .high-low) (h .high-high);
-      }
-    where
-      R : AtEnds (λ x y. Rounds binary64 (mul binary64 x y) (value x ⊗ value y)) r s
-      R = record {
-        low-low = mul-rounds binary64 (r .lower) (s .lower) (lower-finite r A) (lower-finite s B);
-        low-high = mul-rounds binary64 (r .lower) (s .upper) (lower-finite r A) (upper-finite s B);
-        high-low = mul-rounds binary64 (r .upper) (s .lower) (upper-finite r A) (lower-finite s B);
-        high-high = mul-rounds binary64 (r .upper) (s .upper) (upper-finite r A) (upper-finite s B);
       }
 
   pub quotient-within : Apart (value (s .lower)) (value (s .upper)) → T (finite (before (lowest (div binary64) r s))) → T (finite (after (highest (div binary64) r s)))

@@ -13,6 +13,5 @@ pub mod Example
 pub mod Rows
 pub mod Points
 pub mod Testing
-pub mod Whole
 pub mod Place
 pub mod Mantissa

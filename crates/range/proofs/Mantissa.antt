@@ -1,10 +1,10 @@
--- ln for a range: one e for both ends, and the ends times 2^-e, which are doubles.
+-- ln for a range whose ends have one e: the ends times 2^-e, which are doubles.
 use Prim.Native.Nat.{ℕ, _+_, _*_, _<_}
 use native.Mathlib.Nat.{mul-lt-mul-of-pos-right}
 use native.Mathlib.Omega.{arith}
-use mathlib.Core.Path.{_≡_, refl, sym, subst, _∙_}
-use mathlib.Core.Bool.{Bool, true, false, cond}
-use mathlib.Core.Option.{Option, none, some}
+use mathlib.Core.Path.{_≡_, refl, sym, subst}
+use mathlib.Core.Bool.{Bool, true, false}
+use mathlib.Core.Option.{none, some}
 use lib.IntN.{ℤ, negℤ}
 use lib.Dec.{T}
 use lib.Ieee.{Float, nan, inf, fin, binary64, fits, eq, le, up, down, inFloat}
@@ -14,7 +14,6 @@ use lib.Ieee.Scale.{finite}
 use Rattle.arithmetic.specs.Fraction.{Fraction, _≼_, _≺_, null, _⊗_}
 use Rattle.arithmetic.specs.Value.{value}
 use Rattle.arithmetic.specs.Cases.{exponentOf}
-use Rattle.arithmetic.specs.Basic.{exponent}
 use Rattle.arithmetic.specs.Constants.{zeroD}
 use Rattle.arithmetic.specs.Doubles.{scaled}
 use Rattle.arithmetic.proofs.Fraction.{≼-trans, ≺-≼-trans, ≼-≺-trans, ≺-not-≼, ≺-irrefl}
@@ -22,7 +21,7 @@ use Rattle.arithmetic.proofs.Value.{le→≼}
 use Rattle.arithmetic.proofs.Tests.{not-at-least}
 use Rattle.arithmetic.proofs.Cases.{exponent-none}
 use Rattle.range.specs.declared.basic.Range.{Range}
-use Rattle.range.specs.Rules.{range, failed, ok, ends, equal, oneStep, kept, scale, step}
+use Rattle.range.specs.Rules.{range, ok, ends, kept, scale}
 use Rattle.range.proofs.Corners.{_≈_, lower-finite, upper-finite}
 use Rattle.range.proofs.Contained.{zero-is, zero-value, zero-number}
 use Rattle.range.proofs.PowersOfTwo.{power, kept-exact}
@@ -80,41 +79,6 @@ module _ (v : Range) (A : ok v ≡ true) (k : ℤ) (m n : Float) (fl : T (fits b
         end-nonzero (v .lower) k m fl pl zl sl el,
         end-nonzero (v .upper) k n fu pu zu su eu,
       )
-
--- ---- the cases of e
-module _ (v : Range) (f : ℤ → Range) where
-  pub no-exponent-lower : exponentOf (value (v .lower)) ≡ none → step exponent v f ≡ failed
-  unfolding step
-  no-exponent-lower e = rw e (go (ok v))
-    where
-      go : (b : Bool) → cond b failed failed ≡ failed
-      go true = refl
-      go false = refl
-
-  pub no-exponent-upper : exponentOf (value (v .upper)) ≡ none → step exponent v f ≡ failed
-  unfolding step
-  no-exponent-upper e = rw e (go (ok v) (exponentOf (value (v .lower))))
-    where
-      go : (b : Bool) (o : Option ℤ) → cond b (oneStep o none f) failed ≡ failed
-      go true none = refl
-      go true (some k) = refl
-      go false o = refl
-
-  pub two-exponents : (i j : ℤ) → exponentOf (value (v .lower)) ≡ some i → exponentOf (value (v .upper)) ≡ some j → equal i j ≡ false → step exponent v f ≡ failed
-  unfolding step
-  two-exponents i j a b n = rw (a, b, n) (go (ok v))
-    where
-      go : (b : Bool) → cond b failed failed ≡ failed
-      go true = refl
-      go false = refl
-
-  pub one-exponent : (i j : ℤ) → ok v ≡ true → exponentOf (value (v .lower)) ≡ some i → exponentOf (value (v .upper)) ≡ some j → equal i j ≡ true → step exponent v f ≡ f i
-  unfolding step
-  one-exponent i j k a b n = rw (k, a, b, n)
-
-  pub no-range : ok v ≡ false → step exponent v f ≡ failed
-  unfolding step
-  no-range e = rw e
 
 -- ---- an end above zero, as the code has it
 pub not-at-most-zero : (x : Float) → T (finite x) → le x zeroD ≡ false → null ≺ value x

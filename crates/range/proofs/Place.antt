@@ -4,9 +4,9 @@ use mathlib.Core.Path.{_≡_, refl, sym, ap, subst, _∙_}
 use mathlib.Core.Bool.{Bool, true, false, cond}
 use mathlib.Core.Option.{some, Option·some-inj}
 use lib.IntN.{ℤ, sucℤ}
-use lib.Dec.{T, not-T}
+use lib.Dec.{T}
 use lib.Ieee.{Float, binary64, fits, eq, ofBits, mul}
-use lib.Ieee.Bits.{is-true, is-false}
+use lib.Ieee.Bits.{is-true}
 use lib.Ieee.Fits.{and-l, mul-fits}
 use lib.Ieee.Scale.{finite}
 use Rattle.arithmetic.specs.Fraction.{Fraction, _≼_, _≺_, _⊗_, whole}
@@ -15,19 +15,19 @@ use Rattle.arithmetic.specs.Cases.{floorOf}
 use Rattle.arithmetic.specs.Basic.{floor}
 use Rattle.arithmetic.specs.Constants as K
 use Rattle.arithmetic.specs.Doubles.{checked, strict}
-use Rattle.arithmetic.proofs.Fraction.{≼-trans, ≼-≺-trans, ≺-≼-trans, ≺-not-≼}
+use Rattle.arithmetic.proofs.Fraction.{≼-trans, ≼-≺-trans, ≺-not-≼}
 use Rattle.arithmetic.proofs.Cases.{floor-in, floor-is, pick-convex}
 use Rattle.arithmetic.proofs.Agreement.{agreement}
-use Rattle.arithmetic.proofs.Enclosure.{Rounds, mul-rounds}
-use Rattle.elementary.proofs.Place.{place, constants}
+use Rattle.arithmetic.proofs.Enclosure.{Rounds}
+use Rattle.elementary.proofs.Place.{place}
 use Rattle.range.specs.declared.basic.Range.{Range}
-use Rattle.range.specs.Rules.{range, failed, zero, ok, isZero, outwards, four, point, ends, equal, step, before, after}
+use Rattle.range.specs.Rules.{range, failed, zero, ok, isZero, outwards, four, point, ends, step, before, after}
 use Rattle.range.specs.Rules as Rules
 use Rattle.range.specs.Enclosed.{Ok}
-use Rattle.range.proofs.Corners.{In, AtEnds, lowest, highest, lower-finite, upper-finite, before-fits, after-fits, low-corners, high-corners}
+use Rattle.range.proofs.Corners.{In, AtEnds, lowest, highest, before-fits, after-fits, low-corners, high-corners, product-ends}
 use Rattle.range.proofs.Contained.{Certain, Contained, zero-doubles, zero-ok, zero-value, in-zero, checked-is, rounded-range-certain, rounded-ends-certain, constant-contained}
 use Rattle.range.proofs.Operations.{zero-times, add-contained}
-use Rattle.range.proofs.Choosing.{equal→≡, equal-refl}
+use Rattle.range.proofs.Testing.{has-ends, one-step, two-steps}
 
 abbrev pub places : Range → Range
 places v = Rules.add (Rules.mul v (point K.E)) (point K.half)
@@ -47,16 +47,8 @@ E-nonzero = refl
 
 module _ (v : Range) (fl : T (fits binary64 (v .lower))) where
   module _ (A : Ok v) where
-    rounds : Rounds binary64 (mul binary64 (v .lower) K.E) (value (v .lower) ⊗ value K.E)
-    rounds = mul-rounds binary64 (v .lower) K.E (lower-finite v A) (constants .0)
-
     corners : AtEnds (λ x y. Rounds binary64 (mul binary64 x y) (value x ⊗ value y)) v (range K.E K.E)
-    corners = record {
-      low-low = mul-rounds binary64 (v .lower) K.E (lower-finite v A) (constants .0);
-      low-high = mul-rounds binary64 (v .lower) K.E (lower-finite v A) (constants .0);
-      high-low = mul-rounds binary64 (v .upper) K.E (upper-finite v A) (constants .0);
-      high-high = mul-rounds binary64 (v .upper) K.E (upper-finite v A) (constants .0);
-    }
+    corners = product-ends v (range K.E K.E) A (has-ends (range K.E K.E) E-ok)
 
     abbrev productIf : (zero? : Bool) → Range
     productIf i = cond i zero (four (mul binary64) v (range K.E K.E))
@@ -65,11 +57,11 @@ module _ (v : Range) (fl : T (fits binary64 (v .lower))) where
     unfolding four outwards
     product true I O =
         let z = in-zero (zero-times (value K.E) (zero-value (v .lower) fl (is-true (eq (v .lower) K.zeroD) (and-l (eq (v .lower) K.zeroD) (eq (v .upper) K.zeroD) (I tt))))) in
-        rounded-range-certain (mul binary64 (v .lower) K.E) (value (v .lower) ⊗ value K.E) (value (v .lower) ⊗ value K.E) rounds zero zero-doubles zero-ok z z
+        rounded-range-certain (mul binary64 (v .lower) K.E) (value (v .lower) ⊗ value K.E) (value (v .lower) ⊗ value K.E) (corners .low-low) zero zero-doubles zero-ok z z
     product false I O =
         let l = lowest (mul binary64) v (range K.E K.E) in
         let h = highest (mul binary64) v (range K.E K.E) in
-        rounded-ends-certain (mul binary64 (v .lower) K.E) (value (v .lower) ⊗ value K.E) (value (v .lower) ⊗ value K.E) rounds (before l) (after h) (before-fits l) (after-fits h)
+        rounded-ends-certain (mul binary64 (v .lower) K.E) (value (v .lower) ⊗ value K.E) (value (v .lower) ⊗ value K.E) (corners .low-low) (before l) (after h) (before-fits l) (after-fits h)
         (λ L H.
         let w : Within (before l) (after h) (value (v .lower) ⊗ value K.E) = record {
           low = low-corners (mul binary64) _⊗_ (mul-fits binary64) v (range K.E K.E) corners L .low-low;
@@ -97,30 +89,20 @@ module _ (v : Range) (fl : T (fits binary64 (v .lower))) where
 -- ---- one floor for both ends
 module _ (r : Range) (O : ok r ≡ true) (q : Fraction) (w : In r q) (f : ℤ → Range) where
   pub one-floor : whole (floorOf q) ≼ value (r .lower) → value (r .upper) ≺ whole (sucℤ (floorOf q)) → step floor r f ≡ f (floorOf q)
-  unfolding step
   one-floor l h =
       let i = floor-in q in
       let a = floor-is (value (r .lower)) (floorOf q) (record { low = l; high = ≼-≺-trans (w .low) (i .high) }) in
       let b = floor-is (value (r .upper)) (floorOf q) (record { low = ≼-trans (i .low) (w .high); high = h }) in
-      rw (O, a, b, equal-refl (floorOf q))
+      one-step floor r f (floorOf q) O (ap some a) (ap some b)
 
   -- where the floors were the same, q's would be the same too
-  same-floor : T (equal (floorOf (value (r .lower))) (floorOf (value (r .upper)))) → (floorOf (value (r .lower)) ≡ floorOf q) × (floorOf (value (r .upper)) ≡ floorOf q)
-  same-floor t =
-      let e = equal→≡ (floorOf (value (r .lower))) (floorOf (value (r .upper))) t in
+  same-floor : floorOf (value (r .lower)) ≡ floorOf (value (r .upper)) → (floorOf (value (r .lower)) ≡ floorOf q) × (floorOf (value (r .upper)) ≡ floorOf q)
+  same-floor e =
       let k : floorOf q ≡ floorOf (value (r .lower)) = Option·some-inj .0 (pick-convex floor (floorOf (value (r .lower))) (w .low) (w .high) refl (ap some (sym e))) in
       (sym k, sym e ∙ sym k)
 
-  two-floors : (T (equal (floorOf (value (r .lower))) (floorOf (value (r .upper)))) → ⊥) → step floor r f ≡ failed
-  unfolding step
-  two-floors n = rw (O, is-false (equal (floorOf (value (r .lower))) (floorOf (value (r .upper)))) (not-T (equal (floorOf (value (r .lower))) (floorOf (value (r .upper)))) n))
-
   pub floor-below : value (r .lower) ≺ whole (floorOf q) → step floor r f ≡ failed
-  floor-below h = two-floors (λ t. ≺-not-≼ h (subst (λ (k : ℤ). whole k ≼ value (r .lower)) (same-floor t .0) (floor-in (value (r .lower)) .low)))
+  floor-below h = two-steps floor r f _ _ refl refl (λ e. ≺-not-≼ h (subst (λ (k : ℤ). whole k ≼ value (r .lower)) (same-floor e .0) (floor-in (value (r .lower)) .low)))
 
   pub floor-above : whole (sucℤ (floorOf q)) ≼ value (r .upper) → step floor r f ≡ failed
-  floor-above h = two-floors (λ t. ≺-not-≼ (subst (λ (k : ℤ). value (r .upper) ≺ whole (sucℤ k)) (same-floor t .1) (floor-in (value (r .upper)) .high)) h)
-
-pub no-floor : (r : Range) (f : ℤ → Range) → ok r ≡ false → step floor r f ≡ failed
-unfolding step
-no-floor r f e = rw e
+  floor-above h = two-steps floor r f _ _ refl refl (λ e. ≺-not-≼ (subst (λ (k : ℤ). value (r .upper) ≺ whole (sucℤ k)) (same-floor e .1) (floor-in (value (r .upper)) .high)) h)

@@ -1,20 +1,25 @@
--- A case by a limit, as a program tests it: both ends compared with the limit.
+-- A case, as a program tests it: by a limit, with which both ends are compared, and by a whole number, which both ends must have.
 use mathlib.Core.Path.{_≡_, refl, sym, subst}
+use mathlib.Core.Option.{Option, none, some}
 use mathlib.Core.Bool.{Bool, true, false, cond}
-use lib.Dec.{T}
+use lib.Dec.{T, not-T}
+use lib.IntN.{ℤ}
 use lib.Ieee.{Float, lt}
+use lib.Ieee.Bits.{is-false}
 use lib.Ieee.Scale.{finite}
 use Rattle.arithmetic.specs.Value.{value}
-use Rattle.arithmetic.specs.Basic.{Limit, below, above, passes}
+use Rattle.arithmetic.specs.Basic.{Limit, below, above, Step, passes, pick}
 use Rattle.arithmetic.proofs.Tests.{below-is, above-is}
 use Rattle.range.specs.declared.basic.Range.{Range}
-use Rattle.range.specs.Rules.{ok, failed, agreed, test}
+use Rattle.range.specs.Rules.{ok, failed, agreed, equal, oneStep, test, step}
 use Rattle.range.specs.Enclosed.{Ok}
 use Rattle.range.proofs.Corners.{lower-finite, upper-finite}
+use Rattle.range.proofs.Choosing.{equal→≡, equal-refl}
 
 pub has-ends : (r : Range) → ok r ≡ true → Ok r
 has-ends r k = subst T (sym k) tt
 
+-- ---- by a limit
 module _ (r : Range) (k : ok r ≡ true) where
   module _ (t : Float) (f : T (finite t)) (x y : Range) where
     pub below-test : test (below t) r x y ≡ agreed (lt (r .lower) t) (lt (r .upper) t) x y
@@ -41,3 +46,35 @@ test-else l r x y z h = go (ok r) (passes l (value (r .lower))) (passes l (value
     go true true false e f = refl
     go true false true e f = refl
     go true false false e f = h e f
+
+-- ---- by a whole number
+fails : (b : Bool) → cond b failed failed ≡ failed
+fails true = refl
+fails false = refl
+
+module _ (s : Step) (r : Range) (f : ℤ → Range) where
+  -- a failed range has no case
+  pub failed-step : ok r ≡ false → step s r f ≡ failed
+  unfolding step
+  failed-step k = rw k
+
+  -- an end without a whole number
+  pub none-lower : pick s (value (r .lower)) ≡ none → step s r f ≡ failed
+  unfolding step
+  none-lower e = rw e (fails (ok r))
+
+  pub none-upper : pick s (value (r .upper)) ≡ none → step s r f ≡ failed
+  unfolding step
+  none-upper e = rw e (go (pick s (value (r .lower))))
+    where
+      go : (o : Option ℤ) → cond (ok r) (oneStep o none f) failed ≡ failed
+      go none = fails (ok r)
+      go (some k) = fails (ok r)
+
+  pub two-steps : (i j : ℤ) → pick s (value (r .lower)) ≡ some i → pick s (value (r .upper)) ≡ some j → (i ≡ j → ⊥) → step s r f ≡ failed
+  unfolding step
+  two-steps i j a b n = rw (a, b, is-false (equal i j) (not-T (equal i j) (λ t. n (equal→≡ i j t)))) (fails (ok r))
+
+  pub one-step : (k : ℤ) → ok r ≡ true → pick s (value (r .lower)) ≡ some k → pick s (value (r .upper)) ≡ some k → step s r f ≡ f k
+  unfolding step
+  one-step k h a b = rw (h, a, b, equal-refl k)

@@ -1,6 +1,5 @@
 -- The rules for ranges, exact readings, and what ends enclose.
 pub mod Rules
-pub mod Horner
 pub mod Exact
 pub mod Enclosed
 pub mod Applied

@@ -249,30 +249,36 @@ fn agreed(i: bool, j: bool, a: Range, b: Range) -> Range
     b
 }
 
-// The least and the greatest of the four products of ends, moved outwards.
-fn products(r: Range, s: Range) -> Range
-    ensures { λ x. ⌜ x ≡ Rules.four (Ieee.mul binary64) r s ⌝ }
+// The least and the greatest of four, moved outwards.
+fn outermost(a: f64, b: f64, c: f64, d: f64) -> Range
+    ensures { λ x. ⌜ x ≡ Rules.outwards (Rules.least (Rules.least a b) (Rules.least c d)) (Rules.greatest (Rules.greatest a b) (Rules.greatest c d)) ⌝ }
 {
-    let a = r.lower * s.lower;
-    let b = r.lower * s.upper;
-    let c = r.upper * s.lower;
-    let d = r.upper * s.upper;
     outwards(
         least(least(a, b), least(c, d)),
         greatest(greatest(a, b), greatest(c, d)),
     )
 }
 
-// The least and the greatest of the four quotients of ends, moved outwards.
+// The range of the four products of ends.
+fn products(r: Range, s: Range) -> Range
+    ensures { λ x. ⌜ x ≡ Rules.four (Ieee.mul binary64) r s ⌝ }
+{
+    outermost(
+        r.lower * s.lower,
+        r.lower * s.upper,
+        r.upper * s.lower,
+        r.upper * s.upper,
+    )
+}
+
+// The range of the four quotients of ends.
 fn quotients(r: Range, s: Range) -> Range
     ensures { λ x. ⌜ x ≡ Rules.four (Ieee.div binary64) r s ⌝ }
 {
-    let a = r.lower / s.lower;
-    let b = r.lower / s.upper;
-    let c = r.upper / s.lower;
-    let d = r.upper / s.upper;
-    outwards(
-        least(least(a, b), least(c, d)),
-        greatest(greatest(a, b), greatest(c, d)),
+    outermost(
+        r.lower / s.lower,
+        r.lower / s.upper,
+        r.upper / s.lower,
+        r.upper / s.upper,
     )
 }

@@ -59,7 +59,7 @@ fn exp_of(v: Range, k: i64) -> Range
 {
     let w = Range::point(k as f64);
     let r = v.sub(w.mul(Range::point(H))).sub(w.mul(Range::point(G)));
-    scale(horner(r, &FACTORIALS), k)
+    scale(horner(&FACTORIALS, r), k)
 }
 
 // exp of a range from -700 to 700. Both ends of the range of v * E + 0.5 must have the floor k; it holds that number for the lower end, so only that one's k can serve.
@@ -93,14 +93,14 @@ impl Range {
         ensures { λ r. ⌜ r ≡ ranges .exp self ⌝ }
     {
         let upper = self.if_above(700.0, failed(), exp_between(self));
-        self.if_below(-700.0, Range::point(0.0), upper)
+        self.if_below(-700.0, Range::ZERO, upper)
     }
 
     // v^b, as exp(b * ln v). A base of 0 gives 0 where b is above 0.
     pub fn powf(self, b: Range) -> Range
         ensures { λ r. ⌜ r ≡ ranges .powf self b ⌝ }
     {
-        let zero = b.if_above(0.0, Range::point(0.0), failed());
+        let zero = b.if_above(0.0, Range::ZERO, failed());
         let other = self.if_below(0.0, failed(), zero);
         self.if_above(0.0, b.mul(self.ln()).exp(), other)
     }
@@ -108,10 +108,9 @@ impl Range {
     pub fn tanh(self) -> Range
         ensures { λ r. ⌜ r ≡ ranges .tanh self ⌝ }
     {
-        let one = Range::point(1.0);
         let two = Range::point(2.0);
-        let inner = one.sub(two.div(two.mul(self).exp().add(one)));
+        let inner = Range::ONE.sub(two.div(two.mul(self).exp().add(Range::ONE)));
         let lower = self.if_below(-20.0, Range::point(-1.0), inner);
-        self.if_above(20.0, one, lower)
+        self.if_above(20.0, Range::ONE, lower)
     }
 }

@@ -15,7 +15,7 @@ ghost use Rattle.range.specs.Rules.{rules, ranges};
 fn series(s: Range) -> Range
     ensures { λ r. ⌜ r ≡ R.series rules s ⌝ }
 {
-    Range::point(2.0).mul(s).mul(horner(s.mul(s), &ODDS))
+    Range::point(2.0).mul(s).mul(horner(&ODDS, s.mul(s)))
 }
 
 // ln of m * 2^e.
@@ -23,8 +23,7 @@ fn ln_of(m: Range, e: i64) -> Range
     requires { ⌜ T (inFloat binary64 e) ⌝ }
     ensures { λ r. ⌜ r ≡ R.lnOf rules m e ⌝ }
 {
-    let one = Range::point(1.0);
-    let s = m.sub(one).div(m.add(one));
+    let s = m.sub(Range::ONE).div(m.add(Range::ONE));
     series(s).add(Range::point(e as f64).mul(Range::point(L)))
 }
 
@@ -58,7 +57,7 @@ impl Range {
     pub fn ln_1p(self) -> Range
         ensures { λ r. ⌜ r ≡ ranges .ln1p self ⌝ }
     {
-        let ln = Range::point(1.0).add(self).ln();
+        let ln = Range::ONE.add(self).ln();
         let near = series(self.div(Range::point(2.0).add(self)));
         let below = self.if_above(-1.0, ln, failed());
         let within = self.if_above(0.25, ln, near);

@@ -19,9 +19,13 @@ module _ (A : Arithmetic) where
   unfoldable pub delta-b12u : Value → Value → Value → Value
   delta-b12u t-x mean-field-constant-x weighted-sigma3-ij = - mean-field-constant-x / t-x * constant two * constant PI * weighted-sigma3-ij
 
+  -- a coefficient of `beta_eff`, by its row c of `C2`
+  abbrev pub coefficient-2 : (ℕ → Float) → Value → Value
+  coefficient-2 c rep = constant (c 0) + constant (c 1) / rep
+
   unfoldable pub beta-eff : Value → Value → Value → Value
   beta-eff beta rep c0 =
-      let c : ℕ → Value = λ k. constant (C2-BH k 0) + constant (C2-BH k 1) / rep in
+      let c : ℕ → Value = λ k. coefficient-2 (C2-BH k) rep in
       beta * (- recip A (beta * (beta * c 1 + beta ^ 3 * c 2 + c 0) + constant one) * c0 + constant one)
 
   -- by the mean-field constants at rs = 1 and at the cutoff, a-rs and alpha
@@ -78,10 +82,14 @@ module _ (A : Arithmetic) where
   unfoldable pub activation : Value → Value → Value
   activation c one-fluid-beta = one-fluid-beta * sqrt c / sqrt (one-fluid-beta ^ 2 * c + constant one)
 
+  -- a coefficient of `u_fraction_bh`, by its row c of `CU_BH`
+  abbrev pub coefficient-u : (ℕ → Float) → Value → Value
+  coefficient-u c inv-rep = inv-rep * constant (c 1) + constant (c 0)
+
   unfoldable pub u-fraction-bh : Value → Value → Value → Value
   u-fraction-bh rep-x rho one-fluid-beta =
       let inv-rep = recip A rep-x in
-      let c : ℕ → Value = λ i. inv-rep * constant (CU-BH i 1) + constant (CU-BH i 0) in
+      let c : ℕ → Value = λ i. coefficient-u (CU-BH i) inv-rep in
       (activation (c 1) one-fluid-beta * (- c 0 + constant one) + c 0)
       * tanh (powf rho (constant u-exponent-a) * c 2 + powf rho (constant u-exponent-b) * c 3)
 

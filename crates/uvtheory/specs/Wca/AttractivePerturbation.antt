@@ -43,9 +43,13 @@ module _ (A : Arithmetic) where
   unfoldable pub u-fraction-wca : Value → Value → Value
   u-fraction-wca rep-x rho = tanh (rho * constant (CU-WCA 0) + rho ^ 2 * (recip A rep-x * constant (CU-WCA 2) + constant (CU-WCA 1)))
 
+  -- a coefficient of `beta_eff`, by its row c of `C2`
+  abbrev pub coefficient-2 : (ℕ → Float) → Value → Value
+  coefficient-2 c rep = constant (c 0) + constant (c 1) / rep
+
   unfoldable pub beta-eff : Value → Value → Value → Value
   beta-eff beta rep c0 =
-      let c : ℕ → Value = λ k. constant (C2-WCA k 0) + constant (C2-WCA k 1) / rep in
+      let c : ℕ → Value = λ k. coefficient-2 (C2-WCA k) rep in
       beta * (- recip A (powf beta (constant y-exponent-a) * c 0 + powf beta (constant y-exponent-b) * c 1 + powf beta (constant zero) * c 2 + constant one) * c0 + constant one)
 
   -- by the mean-field constants at the minimum rs and at the cutoff, a-rs and alpha

@@ -39,7 +39,7 @@ fn delta_b12u(t_x: Range, mean_field_constant_x: Range, weighted_sigma3_ij: Rang
 
 // The first of a row of C2, and the second over rep.
 fn coefficient_2(c: [f64; 2], rep: Range) -> Range
-    ensures { λ r. ⌜ r ≡ ranges .add (ranges .constant (Doubles.row c 0)) (ranges .div (ranges .constant (Doubles.row c 1)) rep) ⌝ }
+    ensures { λ r. ⌜ r ≡ F.coefficient-2 ranges (Doubles.row c) rep ⌝ }
 {
     Range::point(c[0]).add(Range::point(c[1]).div(rep))
 }
@@ -173,7 +173,7 @@ fn activation(c: Range, one_fluid_beta: Range) -> Range
 
 // inv_rep times the second of a row of CU_BH, and the first.
 fn coefficient_u(c: [f64; 2], inv_rep: Range) -> Range
-    ensures { λ r. ⌜ r ≡ ranges .add (ranges .mul «inv_rep» (ranges .constant (Doubles.row c 1))) (ranges .constant (Doubles.row c 0)) ⌝ }
+    ensures { λ r. ⌜ r ≡ F.coefficient-u ranges (Doubles.row c) «inv_rep» ⌝ }
 {
     inv_rep.mul(Range::point(c[1])).add(Range::point(c[0]))
 }

@@ -135,7 +135,7 @@ fn u_fraction_wca(rep_x: Range, reduced_density: Range) -> Range
 
 // The first of a row of C2, and the second over rep.
 fn coefficient_2(c: [f64; 2], rep: Range) -> Range
-    ensures { λ r. ⌜ r ≡ ranges .add (ranges .constant (Doubles.row c 0)) (ranges .div (ranges .constant (Doubles.row c 1)) rep) ⌝ }
+    ensures { λ r. ⌜ r ≡ F.coefficient-2 ranges (Doubles.row c) rep ⌝ }
 {
     Range::point(c[0]).add(Range::point(c[1]).div(rep))
 }

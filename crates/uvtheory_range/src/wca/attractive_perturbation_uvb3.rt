@@ -47,7 +47,7 @@ fn omega(t_x: Range, e: Range) -> Range
     let one = Range::ONE;
     let c = one.div(t_x.mul(Range::point(CU_WCA[7])).tanh()).sub(one);
     let low = e.mul(c.powi(2));
-    t_x.if_below(175.0, low, e.mul(Range::point(0.0)))
+    t_x.if_below(175.0, low, e.mul(Range::ZERO))
 }
 
 fn u_fraction_wca(rep_x: Range, reduced_density: Range, t_x: Range) -> Range

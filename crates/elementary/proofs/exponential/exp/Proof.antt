@@ -1,6 +1,6 @@
 -- The tests tell the cases of the recipe.
 use mathlib.Core.Path.{_≡_, refl, sym, ap, _∙_, subst}
-use mathlib.Core.Bool.{Bool, true, false, not}
+use mathlib.Core.Bool.{true, false}
 use lib.Dec.{T}
 use lib.IntN.{ℤ}
 use lib.Ieee.{Float, nan, inf, fin, binary64, lt, le, add, mul}
@@ -11,7 +11,7 @@ use Rattle.arithmetic.specs.Cases.{floorOf}
 use Rattle.arithmetic.specs.Constants.{zeroD, half, E, sevenHundred, minusSevenHundred}
 use Rattle.arithmetic.specs.Recipes as R
 use Rattle.arithmetic.specs.Doubles.{plain}
-use Rattle.arithmetic.proofs.Tests.{below-is, above-is, le-is, zero-by-zero}
+use Rattle.arithmetic.proofs.Tests.{below-is, above-is, le-is, zero-by-zero, failed-test, passed-test}
 use mir.Syntax.{w64}
 use mir.Val.{toZ, ofZ}
 use mir.ValLaws.{toZ-ofZ}
@@ -19,14 +19,6 @@ use Rattle.elementary.proofs.Floor.{Bounded, Normal, floor-normal, norm
 use Rattle.elementary.proofs.Place.{constants, place, limited-finite, place-bounded}
 use Rattle.elementary.proofs.exponential.exp.Statement.{statement}
 use Rattle.elementary.proofs.exponential.exp.Tie as tie
-
-not-false : (b : Bool) → not b ≡ false → b ≡ true
-not-false true h = refl
-not-false false h = sym h
-
-not-true : (b : Bool) → not b ≡ true → b ≡ false
-not-true true h = sym h
-not-true false h = refl
 
 -- ---- the recipe, by its cases
 exp-low : (v : Float) → finite v ≡ true → lt v minusSevenHundred ≡ true → zeroD ≡ R.exp plain v
@@ -48,7 +40,7 @@ exp-high (inf s) a b = refl
 exp-high (fin s m e) a b = rw (below-is (fin s m e) minusSevenHundred tt (constants .3), a, above-is (fin s m e) sevenHundred tt (constants .2), above (fin s m e) tt b)
   where
     above : (x : Float) → T (finite x) → le x sevenHundred ≡ false → lt sevenHundred x ≡ true
-    above x p h = not-false (lt sevenHundred x) (sym (le-is x sevenHundred p (constants .2)) ∙ h)
+    above x p h = passed-test (lt sevenHundred x) (sym (le-is x sevenHundred p (constants .2)) ∙ h)
 
 -- ---- the function
 returns : tie.Need-returns
@@ -80,7 +72,7 @@ returns-3 c =
     let p = limited-finite v (f .before .before .if1 .left) (f .before .if3 .taken) in
     c .exp-of .ensures
     ∙ ap (λ (k : ℤ). R.expOf plain v k) (back f .1)
-    ∙ exp-middle v p (bounded f .0) (f .before .before .if1 .left) (not-true (lt sevenHundred v) (sym (le-is v sevenHundred p (constants .2)) ∙ f .before .if3 .taken))
+    ∙ exp-middle v p (bounded f .0) (f .before .before .if1 .left) (failed-test (lt sevenHundred v) (sym (le-is v sevenHundred p (constants .2)) ∙ f .before .if3 .taken))
 
 returns-4 : tie.Need-returns-4
 returns-4 c = zero-by-zero ∙ exp-high (c .before .before .args .v) (c .before .if1 .left) (c .if3 .left)

@@ -1,15 +1,16 @@
 -- The tests tell whether both ends have the floor k; proofs/Place.antt has the laws.
-use mathlib.Core.Path.{_≡_, refl, sym, ap, subst, _∙_}
+use mathlib.Core.Path.{_≡_, sym, ap, subst, _∙_}
 use mathlib.Core.Bool.{true, false, not, true≢false, false≢true}
 use lib.Dec.{T}
 use lib.IntN.{ℤ, pos, sucℤ, _+ℤ_, +ℤ-sucℤ, +ℤ-idr}
-use lib.Ieee.{Float, binary64, lt, le, ofInt, inFloat}
+use lib.Ieee.{binary64, lt, le, ofInt, inFloat}
 use mir.Syntax.{w64}
 use mir.Val.{SFits, toZ, ofZ}
 use mir.ValLaws.{toZ-ofZ}
 use Rattle.arithmetic.specs.Fraction.{_≼_, _≺_, whole}
 use Rattle.arithmetic.specs.Value.{value}
 use Rattle.arithmetic.specs.Cases.{floorOf}
+use Rattle.arithmetic.specs.Basic.{floor}
 use Rattle.arithmetic.specs.Constants as K
 use Rattle.arithmetic.specs.Recipes as R
 use Rattle.arithmetic.proofs.Fraction.{≼-trans, ≺-≼-trans}
@@ -21,8 +22,8 @@ use Rattle.elementary.proofs.Place.{constants, place, place-bounded}
 use Rattle.range.specs.declared.basic.Range.{Range}
 use Rattle.range.specs.Rules.{ok, rules}
 use Rattle.range.proofs.Corners.{In, lower-finite, upper-finite}
-use Rattle.range.proofs.Testing.{has-ends}
-use Rattle.range.proofs.Place.{places, place-in, one-floor, floor-below, floor-above, no-floor}
+use Rattle.range.proofs.Testing.{has-ends, failed-step}
+use Rattle.range.proofs.Place.{places, place-in, one-floor, floor-below, floor-above}
 use Rattle.range.proofs.exponential.exp_between.Statement.{statement}
 use Rattle.range.proofs.exponential.exp_between.Tie as tie
 
@@ -34,7 +35,7 @@ returns : tie.Need-returns
 returns c =
     let s = c .before .before in
     let v = s .before .before .before .before .before .args .v in
-    λ a l h. c .failed .ensures ∙ sym (no-floor (places v) (λ k. R.expOf rules v k) (ap ok (sym (is-places (s .before))) ∙ sym (s .is-ok .ensures) ∙ failed-test (s .is-ok .result) (c .before .if1 .taken)))
+    λ a l h. c .failed .ensures ∙ sym (failed-step floor (places v) (λ k. R.expOf rules v k) (ap ok (sym (is-places (s .before))) ∙ sym (s .is-ok .ensures) ∙ failed-test (s .is-ok .result) (c .before .if1 .taken)))
 
 returns-2 : tie.Need-returns-2
 returns-2 c = λ a l h. absurd (true≢false (sym (c .before .if2 .taken) ∙ l))

@@ -9,7 +9,7 @@ use mir.Val.{toZ, ofZ}
 use mir.ValLaws.{toZ-ofZ}
 use Rattle.arithmetic.specs.Recipes as R
 use Rattle.elementary.proofs.Floor.{normal-float}
-use Rattle.range.proofs.Whole.{whole-is}
+use Rattle.range.proofs.Points.{whole-is}
 use Rattle.range.proofs.exponential.exp_of.Statement.{statement}
 use Rattle.range.proofs.exponential.exp_of.Tie as tie
 

@@ -1,58 +1,39 @@
--- The loop's invariant: p is Horner's rule over the coefficients from the i-th on.
-use Prim.Native.Nat.{ℕ, zero, suc, _+_, _-_, _<_}
-use mathlib.Core.Path.{_≡_, refl, sym, ap, _∙_, subst}
-use mathlib.Core.List.{List, [], _∷_}
+-- The loop's invariant: p is Horner's value over the coefficients from k on.
+use Prim.Native.Nat.{_<_, _+_, _-_}
+use mathlib.Core.Path.{_≡_}
+use native.Mathlib.Numerals.{add-one}
 use native.Mathlib.Omega.{arith}
 use borrow.Author.Needs.{needs}
-use lib.ListN.{length, drop, getD}
-use lib.Ieee.{Float, nan}
-use Rattle.range.specs.declared.basic.Range.{Range}
-use Rattle.range.specs.Rules.{add, mul, point}
-use Rattle.range.specs.Horner.{horner}
+use lib.ListN.{length, getD, drop}
+use lib.Seq.{drop-length, drop-cons}
+use lib.Ieee.{nan}
+use Rattle.arithmetic.specs.Recipes as R
+use Rattle.range.specs.Rules.{rules}
 use Rattle.range.proofs.series.horner.Statement.{statement}
 use Rattle.range.proofs.series.horner.Tie as tie
 
-none : {i : ℕ} → i < 0 → ⊥
-none h = omega arith
-
-last : (z : Range) (cs : List Float) (i : ℕ) → i + 1 ≡ length cs → horner z (drop i cs) ≡ point (getD cs i nan)
-last z [] i h = absurd (none {i = i} (omega arith))
-last z (c ∷ []) zero h = refl
-last z (c ∷ d ∷ cs) zero h = absurd (none {i = 0} (omega arith))
-last z (c ∷ cs) (suc i) h = last z cs i (omega arith)
-
-one-more : (z : Range) (cs : List Float) (i : ℕ) → suc i < length cs → horner z (drop i cs) ≡ add (mul (horner z (drop (suc i) cs)) z) (point (getD cs i nan))
-one-more z [] i h = absurd (none h)
-one-more z (c ∷ []) zero h = absurd (none {i = 0} (omega arith))
-one-more z (c ∷ d ∷ cs) zero h = refl
-one-more z (c ∷ cs) (suc i) h = one-more z cs i (omega arith)
-
 abbrev Inv-loop : tie.InvT-loop
-Inv-loop z c i₀ p₀ i p = (i < length c) × (p ≡ horner z (drop i c))
+Inv-loop c z k₀ p₀ k p = (k < length c) × (p ≡ R.horner rules z (getD c k nan) (drop (k + 1) c))
 
 abbrev μ-loop : tie.MeasureT-loop
-μ-loop z c i₀ p₀ i p = i
+μ-loop c z k₀ p₀ k p = k
 
 loop-holds : tie.Need-loop-holds Inv-loop μ-loop
 loop-holds c =
-    let a = c .before .before .before .args in
+    let l = c .before .before .before .args .c .now in
     let some = c .before .before .before .pre in
-    (omega (arith, some), c .point .ensures ∙ sym (last (a .z) (a .c .now) (length (a .c .now) - 1) (omega (arith, some))))
+    let e : length l - 1 + 1 ≡ length l = omega (arith, some) in
+    (omega (arith, some), rw (e, drop-length l, c .point .ensures))
 
 loop-again : tie.Need-loop-again Inv-loop μ-loop
 loop-again c =
-    let l = c .before .before .before .before .before .loop in
-    let a = c .before .before .before .before .before .before .before .before .before .args in
-    let k : l .i ≡ suc (l .i - 1) = omega arith in
-    let inv : l .p ≡ horner (a .z) (drop (suc (l .i - 1)) (a .c .now)) = l .inv .1 ∙ ap (λ (j : ℕ). horner (a .z) (drop j (a .c .now))) k in
-    (omega arith, rw (one-more (a .z) (a .c .now) (l .i - 1) (omega (arith, l .inv .0)), c .add .ensures, c .before .before .before .mul .ensures, c .before .point2 .ensures, inv))
+    let loop = c .before .before .before .before .before .loop in
+    let l = c .before .before .before .before .before .before .before .before .before .args .c .now in
+    let e : loop .k - 1 + 1 ≡ loop .k = omega arith in
+    (omega arith, rw (e, drop-cons l (loop .k) nan (loop .inv .0), c .add .ensures, c .before .before .before .mul .ensures, c .before .point2 .ensures, rw (add-one (loop .k)) at (loop .inv .1)))
 
 returns : tie.Need-returns Inv-loop μ-loop
-returns c =
-    let l = c .before .loop in
-    let a = c .before .before .before .before .before .args in
-    let e : l .i ≡ 0 = omega arith in
-    l .inv .1 ∙ ap (λ (j : ℕ). horner (a .z) (drop j (a .c .now))) e
+returns c = let e : c .before .loop .k ≡ 0 = omega arith in rw e at (c .before .loop .inv .1)
 
 pub horner-spec : {M : Type 1} → statement M
 horner-spec =

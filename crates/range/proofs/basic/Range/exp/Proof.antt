@@ -1,16 +1,14 @@
-use mathlib.Core.Path.{_≡_, sym, _∙_}
-use mathlib.Core.Bool.{true, false}
-use lib.Dec.{T}
+use mathlib.Core.Path.{sym, _∙_}
 use lib.Ieee.{ofBits, neg}
-use Rattle.arithmetic.specs.Value.{value}
-use Rattle.arithmetic.specs.Basic.{below, above, passes}
+use Rattle.arithmetic.specs.Basic.{below, above}
 use Rattle.arithmetic.specs.Constants as K
 use Rattle.arithmetic.specs.Recipes as R
 use Rattle.arithmetic.proofs.Tests.{below-is, above-is}
 use Rattle.elementary.proofs.Place.{constants}
-use Rattle.range.specs.Rules.{failed, point, test, rules}
+use Rattle.range.specs.Rules.{failed, zero}
 use Rattle.range.proofs.Corners.{lower-finite}
 use Rattle.range.proofs.Testing.{has-ends, test-else}
+use Rattle.range.proofs.Points.{zero-point}
 use Rattle.range.proofs.basic.Range.exp.Statement.{statement}
 use Rattle.range.proofs.basic.Range.exp.Tie as tie
 
@@ -25,12 +23,12 @@ if-below-requires c κs = tt
 returns : tie.Need-returns
 unfolding R.exp
 returns c =
-    let b = c .before .before .before in
+    let b = c .before .before in
     let v = b .before .before .args .self in
-    rw (c .if-below .ensures, c .before .before .if-above .ensures, c .before .point .ensures, b .before .failed .ensures)
-    (test-else (below K.minusSevenHundred) v (point K.zeroD) _ _
+    rw (c .if-below .ensures, c .before .if-above .ensures, b .before .failed .ensures, zero-point)
+    (test-else (below K.minusSevenHundred) v zero _ _
     (λ k p. test-else (above K.sevenHundred) v failed _ _
     (λ k' q. b .exp-between .ensures k (sym (below-is (v .lower) K.minusSevenHundred (lower-finite v (has-ends v k)) (constants .3)) ∙ p) (sym (above-is (v .lower) K.sevenHundred (lower-finite v (has-ends v k)) (constants .2)) ∙ q))))
 
 pub exp-spec : {M : Type 1} → statement M
-exp-spec = tie.close (tie.spec (λ c κs. tt) (λ c κs. tt) if-above-requires (λ c κs. tt) if-below-requires returns)
+exp-spec = tie.close (tie.spec (λ c κs. tt) (λ c κs. tt) if-above-requires if-below-requires returns)

@@ -1,27 +1,27 @@
--- The tests tell the cases of e; proofs/Mantissa.antt has the laws.
+-- The tests tell the cases of e; proofs/Testing.antt and proofs/Mantissa.antt have the laws.
 use mathlib.Core.Path.{_≡_, sym, ap, subst, _∙_}
-use mathlib.Core.Bool.{true, false}
-use lib.Dec.{T, not-T}
+use mathlib.Core.Bool.{true}
+use lib.Dec.{T}
 use lib.IntN.{ℤ, negℤ}
 use lib.Ieee.{Float, binary64, inFloat}
-use lib.Ieee.Bits.{is-false, ofBits-toBits}
+use lib.Ieee.Bits.{ofBits-toBits}
 use lib.Ieee.Scale.{finite}
 use mir.Syntax.{w64}
 use mir.Val.{toZ, ofZ}
 use mir.ValLaws.{toZ-ofZ}
 use Rattle.arithmetic.specs.Fraction.{_≺_, null}
 use Rattle.arithmetic.specs.Value.{value}
+use Rattle.arithmetic.specs.Basic.{exponent}
 use Rattle.arithmetic.specs.Recipes as R
 use Rattle.arithmetic.proofs.Tests.{failed-test, passed-test}
 use Rattle.arithmetic.proofs.Next.{finite-not-nan}
 use Rattle.arithmetic.proofs.Zero.{positive-pattern}
 use Rattle.elementary.proofs.Words.{float-word}
 use Rattle.range.specs.declared.basic.Range.{Range}
-use Rattle.range.specs.Rules.{ok, range, equal, scale, rules}
+use Rattle.range.specs.Rules.{ok, range, scale, rules}
 use Rattle.range.proofs.Corners.{lower-finite, upper-finite}
-use Rattle.range.proofs.Choosing.{equal→≡, equal-refl}
-use Rattle.range.proofs.Testing.{has-ends}
-use Rattle.range.proofs.Mantissa.{Split, not-at-most-zero, at-most-zero, scale-exact, no-range, no-exponent-lower, no-exponent-upper, two-exponents, one-exponent}
+use Rattle.range.proofs.Testing.{has-ends, failed-step, none-lower, none-upper, two-steps, one-step}
+use Rattle.range.proofs.Mantissa.{Split, not-at-most-zero, at-most-zero, scale-exact}
 use Rattle.range.proofs.basic.Range.ln.Statement.{statement}
 use Rattle.range.proofs.basic.Range.ln.Tie as tie
 
@@ -37,21 +37,21 @@ unfolding R.ln
 returns c =
     let s = c .before .before in
     let v = s .before .args .self in
-    c .failed .ensures ∙ sym (no-range v (body v) (sym (s .is-ok .ensures) ∙ failed-test (s .is-ok .result) (c .before .if1 .taken)))
+    c .failed .ensures ∙ sym (failed-step exponent v (body v) (sym (s .is-ok .ensures) ∙ failed-test (s .is-ok .result) (c .before .if1 .taken)))
 
 returns-2 : tie.Need-returns-2
 unfolding R.ln
 returns-2 c =
     let s = c .before .before .before in
     let v = s .before .before .args .self in
-    c .failed2 .ensures ∙ sym (no-exponent-lower v (body v) (at-most-zero (v .lower) (lower-finite v (has-ends v (is-ok s))) (c .before .if2 .taken)))
+    c .failed2 .ensures ∙ sym (none-lower exponent v (body v) (at-most-zero (v .lower) (lower-finite v (has-ends v (is-ok s))) (c .before .if2 .taken)))
 
 returns-3 : tie.Need-returns-3
 unfolding R.ln
 returns-3 c =
     let s = c .before .before .before .before .before in
     let v = s .before .before .args .self in
-    c .failed3 .ensures ∙ sym (no-exponent-upper v (body v) (at-most-zero (v .upper) (upper-finite v (has-ends v (is-ok s))) (c .before .if3 .taken)))
+    c .failed3 .ensures ∙ sym (none-upper exponent v (body v) (at-most-zero (v .upper) (upper-finite v (has-ends v (is-ok s))) (c .before .if3 .taken)))
 
 -- ---- past the tests of the ends
 abbrev argument : tie.After-struct-known3 → Range
@@ -92,9 +92,6 @@ upper-split : (c : tie.After-split2) → Split (argument (c .before .before .bef
 upper-split c = let d = c .before .before .before in subst (λ (x : Float). Split x (c .split2 .result .m) (c .split2 .result .e)) (ofBits-toBits binary64 (argument d .upper) (d .struct-known3 .given .1 .0)) (c .split2 .ensures)
 
 -- as words
-differ : (i j : ℤ) → (ofZ w64 i ≡ ofZ w64 j → ⊥) → equal i j ≡ false
-differ i j n = is-false (equal i j) (not-T (equal i j) (λ t. n (ap (ofZ w64) (equal→≡ i j t))))
-
 back : (e : ℤ) → T (inFloat binary64 e) → toZ w64 (ofZ w64 e) ≡ e
 back e h = toZ-ofZ w64 e (float-word e h)
 
@@ -104,8 +101,8 @@ returns-4 c =
     let s = c .before .before .before .before .before .before in
     let d = s .before .before .before in
     let v = argument d in
-    c .failed4 .ensures ∙ sym (two-exponents v (body v) (s .before .before .split .result .e) (s .split2 .result .e) (lower-split (s .before .before) .0) (upper-split s .0)
-    (differ (s .before .before .split .result .e) (s .split2 .result .e) (c .before .if4 .taken)))
+    c .failed4 .ensures ∙ sym (two-steps exponent v (body v) (s .before .before .split .result .e) (s .split2 .result .e) (lower-split (s .before .before) .0) (upper-split s .0)
+    (λ e. c .before .if4 .taken (ap (ofZ w64) e)))
 
 -- ---- one e
 module _ (s : tie.After-split2) (h : ofZ w64 (s .before .before .split .result .e) ≡ ofZ w64 (s .split2 .result .e)) where
@@ -143,7 +140,7 @@ returns-5 c =
     let w = v s h in
     let k = e s h in
     rw (
-      one-exponent w (body w) k k (has (s .before .before .before)) (lower-is s h .0) (upper-is s h .0) (equal-refl k),
+      one-step exponent w (body w) k (has (s .before .before .before)) (lower-is s h .0) (upper-is s h .0),
       scaled-ends s h,
       c .ln-of .ensures,
       back k (lower-is s h .2),

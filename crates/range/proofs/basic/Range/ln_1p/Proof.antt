@@ -1,5 +1,6 @@
 use Rattle.arithmetic.specs.Recipes as R
 use lib.Ieee.{ofBits, neg}
+use Rattle.range.proofs.Points.{one-point}
 use Rattle.range.proofs.basic.Range.ln_1p.Statement.{statement}
 use Rattle.range.proofs.basic.Range.ln_1p.Tie as tie
 
@@ -17,7 +18,7 @@ if-below-requires c κs = tt
 
 returns : tie.Need-returns
 unfolding R.ln1p
-returns c = rw (c .if-below .ensures, c .before .if-above2 .ensures, c .before .before .if-above .ensures, c .before .before .before .failed .ensures, c .before .before .before .before .series .ensures, c .before .before .before .before .before .div .ensures, c .before .before .before .before .before .before .add2 .ensures, c .before .before .before .before .before .before .before .point2 .ensures, c .before .before .before .before .before .before .before .before .ln .ensures, c .before .before .before .before .before .before .before .before .before .add .ensures, c .before .before .before .before .before .before .before .before .before .before .point .ensures)
+returns c = rw (c .if-below .ensures, c .before .if-above2 .ensures, c .before .before .if-above .ensures, c .before .before .before .failed .ensures, c .before .before .before .before .series .ensures, c .before .before .before .before .before .div .ensures, c .before .before .before .before .before .before .add2 .ensures, c .before .before .before .before .before .before .before .point .ensures, c .before .before .before .before .before .before .before .before .ln .ensures, c .before .before .before .before .before .before .before .before .before .add .ensures, one-point)
 
 pub ln-1p-spec : {M : Type 1} → statement M
-ln-1p-spec = tie.close (tie.spec (λ c κs. tt) (λ c κs. tt) (λ c κs. tt) (λ c κs. tt) (λ c κs. tt) (λ c κs. tt) (λ c κs. tt) (λ c κs. tt) if-above-requires if-above-requires-2 if-below-requires returns)
+ln-1p-spec = tie.close (tie.spec (λ c κs. tt) (λ c κs. tt) (λ c κs. tt) (λ c κs. tt) (λ c κs. tt) (λ c κs. tt) (λ c κs. tt) if-above-requires if-above-requires-2 if-below-requires returns)

@@ -1,5 +1,6 @@
 use Rattle.arithmetic.specs.Recipes as R
 use lib.Ieee.{ofBits, neg}
+use Rattle.range.proofs.Points.{zero-point}
 use Rattle.range.proofs.basic.Range.powf.Statement.{statement}
 use Rattle.range.proofs.basic.Range.powf.Tie as tie
 
@@ -17,7 +18,7 @@ if-above-requires-2 c κs = tt
 
 returns : tie.Need-returns
 unfolding R.powf
-returns c = rw (c .if-above2 .ensures, c .before .exp .ensures, c .before .before .mul .ensures, c .before .before .before .ln .ensures, c .before .before .before .before .if-below .ensures, c .before .before .before .before .before .failed2 .ensures, c .before .before .before .before .before .before .if-above .ensures, c .before .before .before .before .before .before .before .failed .ensures, c .before .before .before .before .before .before .before .before .point .ensures)
+returns c = rw (c .if-above2 .ensures, c .before .exp .ensures, c .before .before .mul .ensures, c .before .before .before .ln .ensures, c .before .before .before .before .if-below .ensures, c .before .before .before .before .before .failed2 .ensures, c .before .before .before .before .before .before .if-above .ensures, c .before .before .before .before .before .before .before .failed .ensures, zero-point)
 
 pub powf-spec : {M : Type 1} → statement M
-powf-spec = tie.close (tie.spec (λ c κs. tt) (λ c κs. tt) if-above-requires (λ c κs. tt) if-below-requires (λ c κs. tt) (λ c κs. tt) (λ c κs. tt) if-above-requires-2 returns)
+powf-spec = tie.close (tie.spec (λ c κs. tt) if-above-requires (λ c κs. tt) if-below-requires (λ c κs. tt) (λ c κs. tt) (λ c κs. tt) if-above-requires-2 returns)

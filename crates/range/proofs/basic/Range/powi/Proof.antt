@@ -1,12 +1,12 @@
 -- The loop's invariant: r is the product of i factors.
-use Prim.Native.Nat.{ℕ, zero, suc, _≤_, _<_, _-_, _+_}
-use mathlib.Core.Path.{_≡_, refl, sym, ap, _∙_}
+use Prim.Native.Nat.{ℕ, zero, suc, _≤_, _-_, _+_}
+use mathlib.Core.Path.{_≡_, refl, ap, _∙_}
 use native.Mathlib.Omega.{arith}
 use native.Mathlib.Numerals.{add-one}
-use lib.Ieee.{fits, eq, ofBits}
 use Rattle.arithmetic.specs.Arithmetic.{powerBy}
 use Rattle.range.specs.declared.basic.Range.{Range}
-use Rattle.range.specs.Rules.{ranges, mul, point, ends}
+use Rattle.range.specs.Rules.{ranges, mul}
+use Rattle.range.proofs.Points.{one-point}
 use Rattle.range.proofs.basic.Range.powi.Statement.{statement}
 use Rattle.range.proofs.basic.Range.powi.Tie as tie
 
@@ -25,8 +25,8 @@ abbrev μ-loop : tie.MeasureT-loop
 μ-loop v k r₀ i₀ r i = k - i
 
 returns : tie.Need-returns Inv-loop μ-loop
-unfolding powerBy point ends ofBits fits eq
-returns c = rw (c .if1 .taken)
+unfolding powerBy
+returns c = rw (c .if1 .taken, one-point)
 
 loop-holds : tie.Need-loop-holds Inv-loop μ-loop
 unfolding powerBy

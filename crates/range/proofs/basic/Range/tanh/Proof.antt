@@ -1,5 +1,6 @@
 use Rattle.arithmetic.specs.Recipes as R
 use lib.Ieee.{ofBits, neg}
+use Rattle.range.proofs.Points.{one-point}
 use Rattle.range.proofs.basic.Range.tanh.Statement.{statement}
 use Rattle.range.proofs.basic.Range.tanh.Tie as tie
 
@@ -13,7 +14,7 @@ if-above-requires c κs = tt
 
 returns : tie.Need-returns
 unfolding R.tanh
-returns c = rw (c .if-above .ensures, c .before .if-below .ensures, c .before .before .point3 .ensures, c .before .before .before .sub .ensures, c .before .before .before .before .div .ensures, c .before .before .before .before .before .add .ensures, c .before .before .before .before .before .before .exp .ensures, c .before .before .before .before .before .before .before .mul .ensures, c .before .before .before .before .before .before .before .before .point2 .ensures, c .before .before .before .before .before .before .before .before .before .point .ensures)
+returns c = rw (c .if-above .ensures, c .before .if-below .ensures, c .before .before .point2 .ensures, c .before .before .before .sub .ensures, c .before .before .before .before .div .ensures, c .before .before .before .before .before .add .ensures, c .before .before .before .before .before .before .exp .ensures, c .before .before .before .before .before .before .before .mul .ensures, c .before .before .before .before .before .before .before .before .point .ensures, one-point)
 
 pub tanh-spec : {M : Type 1} → statement M
-tanh-spec = tie.close (tie.spec (λ c κs. tt) (λ c κs. tt) (λ c κs. tt) (λ c κs. tt) (λ c κs. tt) (λ c κs. tt) (λ c κs. tt) (λ c κs. tt) if-below-requires if-above-requires returns)
+tanh-spec = tie.close (tie.spec (λ c κs. tt) (λ c κs. tt) (λ c κs. tt) (λ c κs. tt) (λ c κs. tt) (λ c κs. tt) (λ c κs. tt) if-below-requires if-above-requires returns)
