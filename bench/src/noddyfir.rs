@@ -3,8 +3,10 @@
 #[link(name = "noddyfir", kind = "static")]
 unsafe extern "C" {
     /// A slice is passed as a pointer and a length.
+    #[link_name = "noddyfir_energies"]
     fn energies(record: *const u8, record_len: usize, answer: *mut u8, answer_len: usize) -> u8;
 
+    #[link_name = "noddyfir_ends"]
     fn ends(record: *const u8, record_len: usize, answer: *mut u8, answer_len: usize) -> u8;
 }
 

@@ -39,8 +39,7 @@ fn answer_of(record: &[u8]) -> Energies
 }
 
 // Writes the answer to a record at the start of `answer`, and returns its code. Under 28 bytes nothing is written.
-#[no_mangle]
-pub extern "C" fn energies(record: &[u8], answer: &mut [u8]) -> u8
+pub fn energies(record: &[u8], answer: &mut [u8]) -> u8
     ensures { λ r. ⌜ (r ≡ callCode 28 (codeOf (answerOf (now («record» .entry)))) (now (answer .entry))) × (now (answer .exit) ≡ callBuffer 28 (energiesAnswer (now («record» .entry))) (now (answer .entry))) ⌝ }
 {
     if answer.len() < 28 {
@@ -78,8 +77,7 @@ fn ends_answer_of(record: &[u8]) -> Ends
 }
 
 // Writes the answer with ends at the start of `answer`, and returns its code. Under 52 bytes nothing is written.
-#[no_mangle]
-pub extern "C" fn ends(record: &[u8], answer: &mut [u8]) -> u8
+pub fn ends(record: &[u8], answer: &mut [u8]) -> u8
     ensures { λ r. ⌜ (r ≡ callCode 52 (endsCode (endsAnswerOf (now («record» .entry)))) (now (answer .entry))) × (now (answer .exit) ≡ callBuffer 52 (endsAnswer (now («record» .entry))) (now (answer .entry))) ⌝ }
 {
     if answer.len() < 52 {

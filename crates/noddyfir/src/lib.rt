@@ -1,5 +1,6 @@
 // The public calls: the energies of one case, and of a run of cases, and their ends.
 pub mod call;
+pub mod exports;
 pub mod run;
 
 pub use call::ends;

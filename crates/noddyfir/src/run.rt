@@ -100,16 +100,14 @@ pub fn run_records(with_ends: bool, records: &[u8], answers: &mut [u8]) -> Run
     }
 }
 
-#[no_mangle]
-pub extern "C" fn run_energies(records: &[u8], answers: &mut [u8]) -> Run
+pub fn run_energies(records: &[u8], answers: &mut [u8]) -> Run
     ensures { λ r. ⌜ (r ≡ runOf 28 energiesAnswer (now (records .entry)) (now (answers .entry)) .run) × (now (answers .exit) ≡ runOf 28 energiesAnswer (now (records .entry)) (now (answers .entry)) .answers) ⌝ }
     ensures within { λ r. ⌜ (r .read ≤ length (now (records .entry))) × (r .written ≤ length (now (answers .exit))) ⌝ }
 {
     run_records(false, records, answers)
 }
 
-#[no_mangle]
-pub extern "C" fn run_ends(records: &[u8], answers: &mut [u8]) -> Run
+pub fn run_ends(records: &[u8], answers: &mut [u8]) -> Run
     ensures { λ r. ⌜ (r ≡ runOf 52 endsAnswer (now (records .entry)) (now (answers .entry)) .run) × (now (answers .exit) ≡ runOf 52 endsAnswer (now (records .entry)) (now (answers .entry)) .answers) ⌝ }
     ensures within { λ r. ⌜ (r .read ≤ length (now (records .entry))) × (r .written ≤ length (now (answers .exit))) ⌝ }
 {
