@@ -92,6 +92,9 @@ upper-split : (c : tie.After-split2) → Split (argument (c .before .before .bef
 upper-split c = let d = c .before .before .before in subst (λ (x : Float). Split x (c .split2 .result .m) (c .split2 .result .e)) (ofBits-toBits binary64 (argument d .upper) (d .struct-known3 .given .1 .0)) (c .split2 .ensures)
 
 -- as words
+differ : (i j : ℤ) → (ofZ w64 i ≡ ofZ w64 j → ⊥) → i ≡ j → ⊥
+differ i j n e = n (ap (ofZ w64) e)
+
 back : (e : ℤ) → T (inFloat binary64 e) → toZ w64 (ofZ w64 e) ≡ e
 back e h = toZ-ofZ w64 e (float-word e h)
 
@@ -102,7 +105,7 @@ returns-4 c =
     let d = s .before .before .before in
     let v = argument d in
     c .failed4 .ensures ∙ sym (two-steps exponent v (body v) (s .before .before .split .result .e) (s .split2 .result .e) (lower-split (s .before .before) .0) (upper-split s .0)
-    (λ e. c .before .if4 .taken (ap (ofZ w64) e)))
+    (differ (s .before .before .split .result .e) (s .split2 .result .e) (c .before .if4 .taken)))
 
 -- ---- one e
 module _ (s : tie.After-split2) (h : ofZ w64 (s .before .before .split .result .e) ≡ ofZ w64 (s .split2 .result .e)) where
