@@ -3,14 +3,14 @@
 use mathlib.Core.Logic.{inl, inr}
 use mathlib.Core.Bool.{Bool, true, false, not, cond}
 use lib.Dec.{T, T-not}
-use lib.Ieee.{Float, nan, inf, fin, binary64, add, mul, div, le, fits}
+use lib.Ieee.{Float, nan, inf, fin, binary64, add, mul, div, le, lt, fits}
 use lib.Ieee.Fits.{and-l, and-r, add-fits, mul-fits, div-fits, cond-fits, nan-fits}
 use lib.Ieee.Scale.{finite}
 use Rattle.arithmetic.specs.Fraction.{Fraction, _≼_, _⊕_, _⊗_, _⊘_, Apart}
 use Rattle.arithmetic.specs.Value.{value, Within}
 use Rattle.arithmetic.specs.Next.{nextUp, nextDown}
 use Rattle.arithmetic.proofs.Fraction.{≼-refl, ≼-trans, ≼-or-≻, ≺→≼, ⊕-mono, apart-at, product-least, product-greatest, quotient-least, quotient-greatest}
-use Rattle.arithmetic.proofs.Value.{≼→le, le-trans}
+use Rattle.arithmetic.proofs.Value.{≼→le, lt→≺, ≺→lt, le-trans}
 use Rattle.arithmetic.proofs.Next.{nextUp-fits, nextDown-fits, nextUp-lt, nextDown-lt}
 use Rattle.arithmetic.proofs.Enclosure.{Rounds, real, low-end, high-end, add-rounds, mul-rounds, div-rounds}
 use Rattle.range.specs.declared.basic.Range.{Range}
@@ -81,36 +81,50 @@ module _ (l : Float) (f : T (fits binary64 l)) where
       go false p = absurd p
 
 -- ---- the least and the greatest of doubles that are no NaN
-other-way : (x y : Float) → T (le x x) → T (le y y) → T (not (le x y)) → T (le y x)
-unfolding le
-other-way nan y p q h = absurd p
-other-way (inf s) nan p q h = absurd q
-other-way (fin s m e) nan p q h = absurd q
-other-way (inf true) (inf true) p q h = tt
-other-way (inf true) (inf false) p q h = absurd h
-other-way (inf false) (inf true) p q h = tt
-other-way (inf false) (inf false) p q h = tt
-other-way (inf true) (fin t n d) p q h = absurd h
-other-way (inf false) (fin t n d) p q h = tt
-other-way (fin s m e) (inf true) p q h = tt
-other-way (fin s m e) (inf false) p q h = absurd h
-other-way (fin s m e) (fin t n d) p q h = elim (≼-or-≻ (value (fin s m e)) (value (fin t n d))) [
-  | inl l ↦ absurd (T-not (le (fin s m e) (fin t n d)) h (≼→le (fin s m e) (fin t n d) tt tt l))
-  | inr l ↦ ≼→le (fin t n d) (fin s m e) tt tt (≺→≼ l)
+lt-le : (x y : Float) → T (lt x y) → T (le x y)
+unfolding lt le
+lt-le nan y h = absurd h
+lt-le (inf s) nan h = absurd h
+lt-le (fin s m e) nan h = absurd h
+lt-le (inf true) (inf true) h = tt
+lt-le (inf true) (inf false) h = tt
+lt-le (inf false) (inf t) h = absurd h
+lt-le (inf true) (fin t n d) h = tt
+lt-le (inf false) (fin t n d) h = absurd h
+lt-le (fin s m e) (inf true) h = absurd h
+lt-le (fin s m e) (inf false) h = tt
+lt-le (fin s m e) (fin t n d) h = ≼→le (fin s m e) (fin t n d) tt tt (≺→≼ (lt→≺ (fin s m e) (fin t n d) tt tt h))
+
+not-lt-le : (x y : Float) → T (le x x) → T (le y y) → T (not (lt y x)) → T (le x y)
+unfolding lt le
+not-lt-le nan y p q h = absurd p
+not-lt-le (inf s) nan p q h = absurd q
+not-lt-le (fin s m e) nan p q h = absurd q
+not-lt-le (inf true) (inf true) p q h = tt
+not-lt-le (inf true) (inf false) p q h = tt
+not-lt-le (inf false) (inf true) p q h = absurd h
+not-lt-le (inf false) (inf false) p q h = tt
+not-lt-le (inf true) (fin t n d) p q h = tt
+not-lt-le (inf false) (fin t n d) p q h = absurd h
+not-lt-le (fin s m e) (inf true) p q h = absurd h
+not-lt-le (fin s m e) (inf false) p q h = tt
+not-lt-le (fin s m e) (fin t n d) p q h = elim (≼-or-≻ (value (fin s m e)) (value (fin t n d))) [
+  | inl l ↦ ≼→le (fin s m e) (fin t n d) tt tt l
+  | inr l ↦ absurd (T-not (lt (fin t n d) (fin s m e)) h (≺→lt (fin t n d) (fin s m e) tt tt l))
 ]
 
 module _ (x y : Float) (p : T (le x x)) (q : T (le y y)) where
   least-is : T (le (least x y) x) × T (le (least x y) y) × T (le (least x y) (least x y))
   unfolding least
-  least-is = go (le x y) (λ t. t) (other-way x y p q)
+  least-is = go (lt y x) (lt-le y x) (not-lt-le x y p q)
     where
-      go : (b : Bool) → (T b → T (le x y)) → (T (not b) → T (le y x)) → T (le (cond b x y) x) × T (le (cond b x y) y) × T (le (cond b x y) (cond b x y))
-      go true h k = (p, h tt, p)
-      go false h k = (k tt, q, q)
+      go : (b : Bool) → (T b → T (le y x)) → (T (not b) → T (le x y)) → T (le (cond b y x) x) × T (le (cond b y x) y) × T (le (cond b y x) (cond b y x))
+      go true h k = (h tt, q, q)
+      go false h k = (p, k tt, p)
 
   greatest-is : T (le x (greatest x y)) × T (le y (greatest x y)) × T (le (greatest x y) (greatest x y))
   unfolding greatest
-  greatest-is = go (le x y) (λ t. t) (other-way x y p q)
+  greatest-is = go (lt x y) (lt-le x y) (not-lt-le y x q p)
     where
       go : (b : Bool) → (T b → T (le x y)) → (T (not b) → T (le y x)) → T (le x (cond b y x)) × T (le y (cond b y x)) × T (le (cond b y x) (cond b y x))
       go true h k = (h tt, q, q)
@@ -118,11 +132,11 @@ module _ (x y : Float) (p : T (le x x)) (q : T (le y y)) where
 
 least-fits : (x y : Float) → T (fits binary64 x) → T (fits binary64 y) → T (fits binary64 (least x y))
 unfolding least
-least-fits x y h k = cond-fits binary64 (le x y) x y h k
+least-fits x y h k = cond-fits binary64 (lt y x) y x k h
 
 greatest-fits : (x y : Float) → T (fits binary64 x) → T (fits binary64 y) → T (fits binary64 (greatest x y))
 unfolding greatest
-greatest-fits x y h k = cond-fits binary64 (le x y) y x k h
+greatest-fits x y h k = cond-fits binary64 (lt x y) y x k h
 
 -- ---- at each end of one range with each end of another
 pub record AtEnds (P : Float → Float → Type 0) (r s : Range) : Type 0 where

@@ -3,7 +3,7 @@ use mathlib.Core.Bool.{Bool, true, false, cond, _&&_, _||_}
 use mathlib.Core.Option.{Option, none, some}
 use lib.IntN.{ℤ, pos, negsuc}
 use lib.Dec.{eqb}
-use lib.Ieee.{Float, nan, fin, binary64, fits, lt, le, eq, ofInt, inFloat}
+use lib.Ieee.{Float, nan, fin, binary64, fits, lt, eq, ofInt, inFloat}
 use lib.Ieee as Ieee
 use lib.Ieee.Scale.{finite}
 use Rattle.arithmetic.specs.Value.{value}
@@ -58,10 +58,10 @@ unfolding ends
 outwards l u = ends (before l) (after u)
 
 unfoldable pub least : Float → Float → Float
-least x y = cond (le x y) x y
+least x y = cond (lt y x) y x
 
 unfoldable pub greatest : Float → Float → Float
-greatest x y = cond (le x y) y x
+greatest x y = cond (lt x y) y x
 
 -- The least and the greatest of four: an operation at each end of r with each end of s.
 unfoldable pub four : (Float → Float → Float) → Range → Range → Range

@@ -59,16 +59,17 @@ fn outwards(l: f64, u: f64) -> Range
     ends(next_down(l), next_up(u))
 }
 
+// Both choices are written with <, for which x86 has an instruction (minsd, maxsd).
 fn least(x: f64, y: f64) -> f64
     ensures { λ r. ⌜ r ≡ Rules.least x y ⌝ }
 {
-    if x <= y { x } else { y }
+    if y < x { y } else { x }
 }
 
 fn greatest(x: f64, y: f64) -> f64
     ensures { λ r. ⌜ r ≡ Rules.greatest x y ⌝ }
 {
-    if x <= y { y } else { x }
+    if x < y { y } else { x }
 }
 
 impl Range {
