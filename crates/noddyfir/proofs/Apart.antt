@@ -10,7 +10,7 @@ use lib.Seq.{take-append-seam, drop-append-seam, drop-drop}
 use lib.Dec.{eqb}
 use borrow.Author.Tests.{le-leb, ne-eqb, le-ltb}
 use Rattle.case_record.specs.Bytes.{bigEndian, written}
-use Rattle.noddyfir.specs.declared.run.Next.the-variants.{Whole}
+use Rattle.noddyfir.specs.declared.reader.Next.the-variants.{Whole}
 use Rattle.noddyfir.specs.Run.{nextOf, runFrom, runOf}
 
 abbrev pub joined : List (List ℕ) → List ℕ
