@@ -52,6 +52,9 @@ whole-size s {size} e =
     let f : 2 + bigEndian s 0 2 ≡ size = w .2 in
     (omega arith, omega arith)
 
+pub whole-is : (s : List ℕ) {size : ℕ} → nextOf s ≡ Whole size → 2 + bigEndian s 0 2 ≡ size
+whole-is s e = let n = 2 + bigEndian s 0 2 in is-whole (eqb (length s) 0) (leb 2 (length s)) (leb n (length s)) n e .2
+
 -- ---- the loop of a run
 pub after-after : (k n m l : ℕ) (a b : List ℕ) (o : Outcome) → after k n a (after m l b o) ≡ after (k + m) (n + l) (a ++ b) o
 after-after k n m l a b o = simp (add-assoc, append-assoc, length-append)
