@@ -1,6 +1,6 @@
 -- What stands at the front of the bytes left, and how a run goes on after a record, for any answers and the room that they need.
 use Prim.Native.Nat.{ℕ, zero, suc, _+_, _-_, _*_, _<_, _≤_}
-use native.Mathlib.Nat.{add-assoc, add-zero, zero-add, sub-zero, add-sub-cancel-left}
+use native.Mathlib.Nat.{add-assoc, add-zero, zero-add, sub-zero}
 use native.Mathlib.Omega.{arith}
 use mathlib.Core.Path.{_≡_, refl, sym, ap, _∙_, subst⁻¹}
 use mathlib.Core.Bool.{Bool, true, false, cond, _&&_}
@@ -11,8 +11,8 @@ use lib.Dec.{leb, eqb, ltb}
 use borrow.Author.Tests.{le-leb, lt-leb, eq-eqb, ne-eqb, lt-ltb, le-ltb, leb-true}
 use Rattle.case_record.specs.Bytes.{bigEndian, written}
 use Rattle.noddyfir.specs.Call.{callBuffer, callCode}
-use Rattle.noddyfir.specs.declared.run.Next.{Next}
-use Rattle.noddyfir.specs.declared.run.Next.the-variants.{UsedUp, Broken, Whole}
+use Rattle.noddyfir.specs.declared.reader.Next.{Next}
+use Rattle.noddyfir.specs.declared.reader.Next.the-variants.{UsedUp, Broken, Whole}
 use Rattle.noddyfir.specs.declared.run.Run.{Run}
 use Rattle.noddyfir.specs.Run.{Outcome, after, nextOf, runFrom, runOf, sizeOf, stopped}
 
@@ -51,6 +51,9 @@ whole-size s {size} e =
     let h = leb-true n (length s) (w .1) in
     let f : 2 + bigEndian s 0 2 ≡ size = w .2 in
     (omega arith, omega arith)
+
+pub whole-is : (s : List ℕ) {size : ℕ} → nextOf s ≡ Whole size → 2 + bigEndian s 0 2 ≡ size
+whole-is s e = let n = 2 + bigEndian s 0 2 in is-whole (eqb (length s) 0) (leb 2 (length s)) (leb n (length s)) n e .2
 
 -- ---- the loop of a run
 pub after-after : (k n m l : ℕ) (a b : List ℕ) (o : Outcome) → after k n a (after m l b o) ≡ after (k + m) (n + l) (a ++ b) o
@@ -136,19 +139,18 @@ module _ (room : ℕ) (answer : List ℕ → List ℕ) where
               ∙ rw (q₁, q₂, ← drop-drop size read s);
         }
 
-    -- what the call leaves, at the parts of the two slices that it was lent
-    pub again : (code : List ℕ → ℕ) → ((r : List ℕ) → length (answer r) ≡ sizeOf room (code r)) → (last : List ℕ) (k n : ℕ)
-        → let r = take (read + size - read) (drop read s) in let a = take (length b - filled) (drop filled b) in (k ≡ callCode room (code r) a) × (last ≡ callBuffer room (answer r) a)
+    -- what the call leaves, at the record that it was lent and the part of the buffer
+    pub again : (r : List ℕ) → r ≡ take size (drop read s) → (code : List ℕ → ℕ) → ((r : List ℕ) → length (answer r) ≡ sizeOf room (code r)) → (last : List ℕ) (k n : ℕ)
+        → let a = take (length b - filled) (drop filled b) in (k ≡ callCode room (code r) a) × (last ≡ callBuffer room (answer r) a)
         → n ≡ sizeOf room k
         → Going s b₀ (done + 1) (read + size) (filled + n) (take filled b ++ (last ++ drop (length b - filled) (drop filled b)))
-    again code counted last k n ensures sized =
+    again r own code counted last k n ensures sized =
         let lb : length (drop filled b) ≡ length b - filled = length-drop filled b in
-        let r : take (read + size - read) (drop read s) ≡ take size (drop read s) = ap (λ (n : ℕ). take n (drop read s)) (add-sub-cancel-left read size) in
         let a : take (length b - filled) (drop filled b) ≡ drop filled b = take-all (length b - filled) (drop filled b) (omega arith) in
         let z : drop (length b - filled) (drop filled b) ≡ [] = drop-of-length-le (drop filled b) {i = length b - filled} (omega arith) in
         let t : ltb (length (drop filled b)) room ≡ false = le-ltb (length (drop filled b)) room h in
-        let c : k ≡ code (take size (drop read s)) = ensures .0 ∙ simp (r, a, t) refl in
-        let l : last ≡ written (drop filled b) given = ensures .1 ∙ simp (r, a, t) refl in
+        let c : k ≡ code (take size (drop read s)) = ensures .0 ∙ simp (own, a, t) refl in
+        let l : last ≡ written (drop filled b) given = ensures .1 ∙ simp (own, a, t) refl in
         let k≡ : n ≡ length given = sized ∙ ap (sizeOf room) c ∙ sym (counted (take size (drop read s))) in
         subst⁻¹ (λ (n : ℕ). Going s b₀ (done + 1) (read + size) (filled + n) (take filled b ++ (last ++ drop (length b - filled) (drop filled b)))) k≡
         (turn (take filled b ++ (last ++ drop (length b - filled) (drop filled b))) (rw (z, append-nil, l)))

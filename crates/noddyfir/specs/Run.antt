@@ -7,8 +7,8 @@ use lib.ListN.{length, take, drop}
 use lib.Dec.{ltb, leb, eqb}
 use Rattle.case_record.specs.Bytes.{bigEndian}
 use Rattle.noddyfir.specs.declared.run.Run.{Run}
-use Rattle.noddyfir.specs.declared.run.Next.{Next}
-use Rattle.noddyfir.specs.declared.run.Next.the-variants.{UsedUp, Broken, Whole}
+use Rattle.noddyfir.specs.declared.reader.Next.{Next}
+use Rattle.noddyfir.specs.declared.reader.Next.the-variants.{UsedUp, Broken, Whole}
 
 -- ---- the input: "one whole record at a time"
 -- What stands at the front of the bytes left: "0 input used up; 2 broken tail (under 2 bytes left, or length past the end)", or else a whole record,

@@ -3,9 +3,11 @@ ghost use mathlib.Core.Path.{_≡_};
 ghost use Prim.Native.Nat.{_≤_};
 ghost use lib.ListN.{length};
 ghost use Rattle.noddyfir.specs.Call.{answerTo, endsAnswer, energiesAnswer, roomOf};
-ghost use Rattle.noddyfir.specs.Run.{nextAt, runOf, sizeOf};
+ghost use Rattle.noddyfir.specs.Run.{runOf, sizeOf};
 use crate::call::answer_to;
-use case_record::bytes::big_endian2;
+use crate::reader::Next;
+use crate::reader::next_from;
+use crate::reader::record_from;
 
 // Records done, bytes read, bytes written, and why the run stopped: 0 input used up, 2 broken tail, 1 no room for an answer.
 #[repr(C)]
@@ -14,31 +16,6 @@ pub struct Run {
     pub read: usize,
     pub written: usize,
     pub reason: u8,
-}
-
-// What follows in the input: nothing, a broken tail, or a whole record of so many bytes.
-pub enum Next {
-    UsedUp,
-    Broken,
-    Whole(usize),
-}
-
-// What follows at a position of the records.
-fn next_at(records: &[u8], at: usize) -> Next
-    ensures { λ r. ⌜ r ≡ nextAt (now (records .entry)) at ⌝ }
-{
-    if records.len() <= at {
-        return Next::UsedUp;
-    }
-    let left = records.len() - at;
-    if left < 2 {
-        return Next::Broken;
-    }
-    let size = 2 + big_endian2(records, at);
-    if size > left {
-        return Next::Broken;
-    }
-    Next::Whole(size)
 }
 
 // The run that stops here.
@@ -79,7 +56,7 @@ pub fn run_records(with_ends: bool, records: &[u8], answers: &mut [u8]) -> Run
     let mut read = 0;
     let mut written = 0;
     loop {
-        match next_at(records, read) {
+        match next_from(records, read) {
             Next::UsedUp => {
                 return stopped(done, read, written, 0);
             }
@@ -90,10 +67,10 @@ pub fn run_records(with_ends: bool, records: &[u8], answers: &mut [u8]) -> Run
                 if answers.len() - written < room {
                     return stopped(done, read, written, 1);
                 }
-                let end = read + size;
-                let code = answer_to(with_ends, &records[read..end], &mut answers[written..]);
+                let record = record_from(records, read, size);
+                let code = answer_to(with_ends, record, &mut answers[written..]);
                 written += answer_size(room, code);
-                read = end;
+                read += size;
                 done += 1;
             }
         }

@@ -8,7 +8,7 @@ use borrow.Author.Needs.{needs}
 use lib.ListN.{length, drop, length-drop}
 use Rattle.noddyfir.specs.Call.{answerTo, codeTo, roomOf}
 use Rattle.noddyfir.specs.Run.{nextOf, sizeOf}
-use Rattle.noddyfir.specs.declared.run.Next.the-variants.{UsedUp, Broken, Whole}
+use Rattle.noddyfir.specs.declared.reader.Next.the-variants.{UsedUp, Broken, Whole}
 use Rattle.noddyfir.proofs.Answers.{answers-fit, answers-sized, some-room}
 use Rattle.noddyfir.proofs.Running.{Going, again, at-broken, at-end, at-full, finish, nonempty, start, turns-left, whole-size}
 use Rattle.noddyfir.proofs.run.run_records.Statement.{statement}
@@ -21,18 +21,18 @@ abbrev μ-loop : tie.MeasureT-loop
 μ-loop ends records answers₀ room done₀ read₀ written₀ answers done read written = length records - read
 
 -- the bytes left, and what stands there
-abbrev left : tie.After-next-at Inv-loop μ-loop → List ℕ
+abbrev left : tie.After-next-from Inv-loop μ-loop → List ℕ
 left c = drop (c .before .loop .read) (c .before .before .before .before .before .args .records .now)
 
 -- which call is asked for, and the room of its answers
-abbrev asked : tie.After-next-at Inv-loop μ-loop → Bool
+abbrev asked : tie.After-next-from Inv-loop μ-loop → Bool
 asked c = c .before .before .before .before .before .args .with-ends
 
-room : (c : tie.After-next-at Inv-loop μ-loop) → c .before .before .room-of .result ≡ roomOf (asked c)
+room : (c : tie.After-next-from Inv-loop μ-loop) → c .before .before .room-of .result ≡ roomOf (asked c)
 room c = c .before .before .room-of .ensures
 
 whole : (c : tie.After-size Inv-loop μ-loop) → nextOf (left (c .before .before)) ≡ Whole (c .size .given .0 .0)
-whole c = sym (c .before .before .next-at .ensures) ∙ c .size .given .1
+whole c = sym (c .before .before .next-from .ensures) ∙ c .size .given .1
 
 bounds : (c : tie.After-size Inv-loop μ-loop)
     → let n = c .size .given .0 .0 in let b = c .before .before in (2 ≤ n) × (n ≤ length (left b)) × (length (left b) ≡ length (b .before .before .before .before .before .args .records .now) - b .before .loop .read)
@@ -44,7 +44,7 @@ returns c =
     let b = c .before .before .before in
     let g = b .before .loop .inv in
     let w = asked b in
-    let e : nextOf (left b) ≡ UsedUp = sym (b .next-at .ensures) ∙ c .before .enum-told .given .1 in
+    let e : nextOf (left b) ≡ UsedUp = sym (b .next-from .ensures) ∙ c .before .enum-told .given .1 in
     rw (c .stopped .ensures) (finish (roomOf w) (answerTo w) g 0 (at-end (roomOf w) (answerTo w) _ _ _ e), (g .within, g .fits-in))
 
 returns-2 : tie.Need-returns-2 Inv-loop μ-loop
@@ -52,7 +52,7 @@ returns-2 c =
     let b = c .before .before .before in
     let g = b .before .loop .inv in
     let w = asked b in
-    let e : nextOf (left b) ≡ Broken = sym (b .next-at .ensures) ∙ c .before .enum-told2 .given .1 in
+    let e : nextOf (left b) ≡ Broken = sym (b .next-from .ensures) ∙ c .before .enum-told2 .given .1 in
     rw (c .stopped2 .ensures) (finish (roomOf w) (answerTo w) g 2 (at-broken (roomOf w) (answerTo w) _ _ _ e (turns-left (roomOf w) (answerTo w) g (nonempty (left b) e))), (g .within, g .fits-in))
 
 returns-3 : tie.Need-returns-3 Inv-loop μ-loop
@@ -66,11 +66,8 @@ returns-3 c =
     (finish (roomOf w) (answerTo w) g 1 (at-full (roomOf w) (answerTo w) _ _ _ (whole a) (simp length-drop (omega (arith, room b))) (turns-left (roomOf w) (answerTo w) g (omega arith))), (g .within, g .fits-in))
 
 -- one more record
-add-end : tie.Need-add-end Inv-loop μ-loop
-add-end c = let w = bounds (c .before .before) in omega arith
-
-part-answer-to-end : tie.Need-part-answer-to-end Inv-loop μ-loop
-part-answer-to-end c = let w = bounds (c .before .before) in omega arith
+record-from-requires : tie.Need-record-from-requires Inv-loop μ-loop
+record-from-requires c κs = let w = bounds (c .before .before) in omega arith
 
 abbrev sized-at : tie.After-answer-size Inv-loop μ-loop → tie.After-size Inv-loop μ-loop
 sized-at c = c .before .before .before .before .before .before .before .before
@@ -79,6 +76,9 @@ add-written : tie.Need-add-written Inv-loop μ-loop
 add-written c =
     let l = sized-at c .before .before .before in
     omega (arith, c .before .before .before .before .before .before .if1 .left, c .answer-size .ensures .1, l .loop .inv, l .before .before .before .before .good)
+
+add-read : tie.Need-add-read Inv-loop μ-loop
+add-read c = let w = bounds (sized-at c) in omega arith
 
 loop-less : tie.Need-loop-less Inv-loop μ-loop
 loop-less c = let w = bounds (sized-at c) in omega (arith, sized-at c .before .before .before .loop .inv)
@@ -90,7 +90,7 @@ loop-again c =
     let w = asked b in
     let k = c .before .before .before .answer-to .result in
     let some = c .before .before .before .before .before .before .if1 .left in
-    again (roomOf w) (answerTo w) (answers-fit w) (b .before .loop .inv) (whole a) (simp length-drop (omega (arith, some, room b))) (codeTo w) (answers-sized w) _ _ _ (c .before .before .before .answer-to .ensures) (c .answer-size .ensures .0 ∙ ap (λ (n : ℕ). sizeOf n k) (room b))
+    again (roomOf w) (answerTo w) (answers-fit w) (b .before .loop .inv) (whole a) (simp length-drop (omega (arith, some, room b))) _ (c .before .before .before .before .before .record-from .ensures) (codeTo w) (answers-sized w) _ _ _ (c .before .before .before .answer-to .ensures) (c .answer-size .ensures .0 ∙ ap (λ (n : ℕ). sizeOf n k) (room b))
 
 -- every answer has at least four bytes
 answer-size-requires : tie.Need-answer-size-requires Inv-loop μ-loop
@@ -118,16 +118,14 @@ run-records-spec =
     (λ c κs. search needs)
     (λ c. search needs)
     returns-3
-    add-end
-    (λ c. search needs)
-    (λ c. search needs)
-    part-answer-to-end
+    record-from-requires
     (λ c. search needs)
     (λ c. search needs)
     (λ c. search needs)
     (λ c κs. search needs)
     answer-size-requires
     add-written
+    add-read
     (λ c. search needs)
     loop-less
     loop-again)

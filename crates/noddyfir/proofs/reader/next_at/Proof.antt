@@ -4,8 +4,8 @@ use native.Mathlib.Omega.{arith}
 use borrow.Author.Needs.{needs}
 use lib.ListN.{drop, length-drop}
 use Rattle.noddyfir.proofs.Running.{length-at, past, short, used-up, whole}
-use Rattle.noddyfir.proofs.run.next_at.Statement.{statement}
-use Rattle.noddyfir.proofs.run.next_at.Tie as tie
+use Rattle.noddyfir.proofs.reader.next_at.Statement.{statement}
+use Rattle.noddyfir.proofs.reader.next_at.Tie as tie
 
 returns : tie.Need-returns
 returns c =
