@@ -118,6 +118,26 @@ below-inf f s c h p =
 pub room : (f : Format) (s : Bool) (c : ℕ) → c < top f → T (finite (ofFields f s (c / hid f) (c % hid f))) → suc c < top f
 room f s c h p = omega (arith, below-inf f s c h p, hid-pos f)
 
+-- and a pattern below the infinity's is a finite value's
+odd-finite : (d : ℕ) (s : Bool) (q k l : ℕ) → T (finite (odd d s q k l))
+unfolding odd
+odd-finite d s zero k l = tt
+odd-finite d s (suc q) k l = tt
+
+fields-finite : (f : Format) (s : Bool) (x t : ℕ) → x ≢ ones f → T (finite (ofFields f s x t))
+unfolding ofFields
+fields-finite f s zero t n = odd-finite (prec f) s t 0 (low f)
+fields-finite f s (suc x) t n = go (eqb (suc x) (ones f)) (eqb t 0) (eqb→eq (suc x) (ones f))
+  where
+    go : (b c : Bool) → (T b → suc x ≡ ones f) → T (finite (cond b (cond c (inf s) nan) (odd (prec f) s (hid f + t) x (low f))))
+    go true c e = absurd (n (e tt))
+    go false c e = odd-finite (prec f) s (hid f + t) x (low f)
+
+pub pattern-finite : (f : Format) (c : ℕ) → c < ones f * hid f → T (finite (ofBits f c))
+pattern-finite f c h =
+    let k : c / hid f < ones f = div-lt-iff-lt-mul (hid-pos f) .1 h in
+    rw (read-plus f c (omega (arith, h))) (fields-finite f false (c / hid f) (c % hid f) (λ e. omega (arith, k, e)))
+
 -- ---- two values by their magnitudes
 apart : (f : Format) (s t : Bool) (c d : ℕ) (x y : Float) → x ≡ ofFields f s (c / hid f) (c % hid f) → y ≡ ofFields f t (d / hid f) (d % hid f) → T (finite x) → T (finite y)
     → signed s (size-of f c) (2 ^ low f) (pow-pos (low f)) ≺ signed t (size-of f d) (2 ^ low f) (pow-pos (low f)) → value x ≺ value y
@@ -342,6 +362,13 @@ bitsDown-is f b B n = go (ltb b (top f)) (eqb b 0) (ltb→lt b (top f)) (nltb→
     go true true h k e = absurd (n (e tt))
     go true false h k e = omega (arith, div-eq-of-lt (h tt))
     go false u h k e = omega (arith, sign-set f b (k tt) B, one-lt-top f)
+
+-- where the sign is clear
+pub bitsUp-plus : (f : Format) (b : ℕ) → b < top f → bitsUp f b ≡ b + 1
+bitsUp-plus f b h = bitsUp-is f b (omega (arith, h)) (λ e. omega (arith, h, e)) ∙ omega (arith, div-eq-of-lt h)
+
+pub bitsDown-plus : (f : Format) (b : ℕ) → 0 < b → b < top f → bitsDown f b ≡ b - 1
+bitsDown-plus f b z h = bitsDown-is f b (omega (arith, h)) (λ e. omega (arith, z, e)) ∙ omega (arith, div-eq-of-lt h)
 
 pub nextUp-zero : (s : Bool) → nextUp binary64 (fin s 0 (pos 0)) ≡ ofBits binary64 1
 unfolding nextUp toBits

@@ -12,7 +12,7 @@ use lib.Ieee.Exact.{HasValue}
 use lib.Ieee.Scale.{finite}
 use Rattle.arithmetic.specs.Fraction.{_≼_, _≺_}
 use Rattle.arithmetic.specs.Value.{signed, value}
-use Rattle.arithmetic.proofs.Fraction.{≼-trans}
+use Rattle.arithmetic.proofs.Fraction.{≼-trans, ≺→≼}
 
 -- ---- the order of ±a and ±b
 or-split : (a b : Bool) → T (a || b) → T a ⊎ T b
@@ -103,6 +103,16 @@ unfolding lt
 ≺→lt nan y p q h = absurd p
 
 -- ---- `le`, the infinities included
+pub lt→le : (x y : Float) → T (lt x y) → T (le x y)
+unfolding lt le
+lt→le nan y h = absurd h
+lt→le (inf s) nan h = absurd h
+lt→le (fin s m e) nan h = absurd h
+lt→le (inf s) (inf t) h = or-l (s && not t) (Bool·beq s t) h
+lt→le (inf s) (fin t n d) h = or-l s false h
+lt→le (fin s m e) (inf t) h = or-l (not t) false h
+lt→le (fin s m e) (fin t n d) h = ≼→le (fin s m e) (fin t n d) tt tt (≺→≼ (lt→≺ (fin s m e) (fin t n d) tt tt h))
+
 ends : (s t u : Bool) → T (s && not t || Bool·beq s t) → T (t && not u || Bool·beq t u) → T (s && not u || Bool·beq s u)
 ends true true u h k = k
 ends true false true h k = absurd k

@@ -9,15 +9,15 @@ use lib.IntN.{ℤ, pos, negsuc}
 use lib.Dec.{T, ltb, eqb, ltb→lt, nltb→le, eqb→eq}
 use lib.Pow.{pow-pos}
 use lib.Ieee.{Float, nan, inf, fin, binary64, up, down, level, lt, eq, ofFields, ofBits, toBits, fits}
-use lib.Ieee.Bits.{ofBits-toBits, toBits-lt}
+use lib.Ieee.Bits.{ofBits-toBits, toBits-lt, ofBits-fits}
 use lib.Ieee.Fits.{up-pos, and-l}
 use lib.Ieee.Exact.{HasValue}
 use lib.Ieee.Scale.{finite}
 use Rattle.arithmetic.specs.Fraction.{_≼_, _≺_, null}
 use Rattle.arithmetic.specs.Value.{value}
-use Rattle.arithmetic.proofs.Fraction.{≺-not-≼, ≼-trans}
+use Rattle.arithmetic.proofs.Fraction.{≺-not-≼, ≼-trans, ≺-irrefl}
 use Rattle.arithmetic.proofs.Value.{value-is, lt→≺}
-use Rattle.arithmetic.proofs.Next.{size-of, read-plus, read-minus, fields-value, below-inf}
+use Rattle.arithmetic.proofs.Next.{size-of, read-plus, read-minus, fields-value, below-inf, pattern-finite}
 
 -- ---- equal to zero
 unscaled : (e : ℤ) → up e * down e ≡ 1 → e ≡ pos 0
@@ -81,3 +81,28 @@ positive-pattern x h p z = go (toBits binary64 x) (toBits-lt binary64 x h) (sym 
     go b B e false l g =
         let s : b ≡ 2 ^ 63 + (b - 2 ^ 63) = omega (arith, g tt) in
         absurd (≺-not-≼ z (minus (b - 2 ^ 63) (omega arith) (e ∙ ap (ofBits binary64) s)))
+
+-- ---- a pattern below the infinity's: zero is +0
+plus-sign : (s : Bool) (a c : ℕ) → HasValue (fin s 0 (pos 0)) false a c → fin s 0 (pos 0) ≡ ofBits binary64 0
+unfolding ofBits
+plus-sign s a c v = ap (λ (b : Bool). fin b 0 (pos 0)) (v .0)
+
+pub plus-pattern-zero : (c : ℕ) → c < 0x7ff0_0000_0000_0000 → eq (ofBits binary64 c) (ofBits binary64 0) ≡ true → ofBits binary64 c ≡ ofBits binary64 0
+plus-pattern-zero c h t =
+    let z = is-zero (ofBits binary64 c) (ofBits-fits binary64 c) t in
+    let r = read-plus binary64 c (omega (arith, h)) in
+    let v : HasValue (ofBits binary64 c) false (size-of binary64 c) (2 ^ 1074) = rw r (fields-value binary64 false (c / 2 ^ 52) (c % 2 ^ 52) (rw r at (pattern-finite binary64 c h))) in
+    z .1 ∙ plus-sign (z .0) (size-of binary64 c) (2 ^ 1074) (subst (λ (y : Float). HasValue y false (size-of binary64 c) (2 ^ 1074)) (z .1) v)
+
+-- ---- between zero and the largest double
+abbrev pub largest : Float
+largest = ofBits binary64 0x7fef_ffff_ffff_ffff
+
+pub below-largest : (x : Float) → T (fits binary64 x) → T (finite x) → null ≺ value x → lt x largest ≡ true → toBits binary64 x < 0x7fef_ffff_ffff_ffff
+below-largest x h p z t =
+    let b : toBits binary64 x < 0x7ff0_0000_0000_0000 = positive-pattern x h p z .1 in
+    let n : toBits binary64 x ≢ 0x7fef_ffff_ffff_ffff = λ e. no (sym (ofBits-toBits binary64 x h) ∙ ap (ofBits binary64) e) in
+    omega (arith, b, n)
+  where
+    no : x ≡ largest → ⊥
+    no e = let l : value x ≺ value x = lt→≺ x x p p (subst (λ (y : Float). T (lt x y)) (sym e) (subst T (sym t) tt)) in ≺-irrefl l

@@ -52,10 +52,24 @@ pub fn ends(l: f64, u: f64) -> Range
     }
 }
 
+// The largest double.
+const LARGEST: f64 = 1.7976931348623157e308;
+
 // Each end moved to the next double outwards.
+// Most ends are positive and below the largest double: their neighbours are the patterns before and behind.
 fn outwards(l: f64, u: f64) -> Range
     ensures { λ r. ⌜ r ≡ Rules.outwards l u ⌝ }
 {
+    if l > 0.0 {
+        if l <= u {
+            if u < LARGEST {
+                return Range {
+                    lower: f64::from_bits(f64::to_bits(l) - 1),
+                    upper: f64::from_bits(f64::to_bits(u) + 1),
+                };
+            }
+        }
+    }
     ends(next_down(l), next_up(u))
 }
 
