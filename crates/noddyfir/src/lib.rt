@@ -1,7 +1,7 @@
 // The public calls: the energies of one case, and of a run of cases, and their ends.
 pub mod call;
 pub mod exports;
-pub mod reader;
+mod reader;
 pub mod run;
 
 pub use call::ends;

@@ -33,7 +33,7 @@ use denote.Enum.Laws as EL
 use denote.Struct.Laws as LL
 use denote.Triple.Statement.{Contract, Triple}
 use denote.Triple.Call.{calls-at}
-use denote.Triple.Entry.{Vals, onEntry}
+use denote.Triple.Entry.{onEntry}
 use denote.Triple.Spec.{Meets, tripleOf}
 use denote.Triple.Table.{entered, cited}
 use denote.Triple.Walked.{says, Stays, stay-none, stay-none-slice, walkOf, goes-none, goes-none-slice, Walks, ends-at, walked, walk-meets}
