@@ -10,7 +10,7 @@ use Rattle.arithmetic.specs.Fraction.{Fraction, _≼_, _⊕_, _⊗_, _⊘_, Apa
 use Rattle.arithmetic.specs.Value.{value, Within}
 use Rattle.arithmetic.specs.Next.{nextUp, nextDown}
 use Rattle.arithmetic.proofs.Fraction.{≼-refl, ≼-trans, ≼-or-≻, ≺→≼, ⊕-mono, apart-at, product-least, product-greatest, quotient-least, quotient-greatest}
-use Rattle.arithmetic.proofs.Value.{≼→le, lt→≺, ≺→lt, le-trans}
+use Rattle.arithmetic.proofs.Value.{≼→le, ≺→lt, lt→le, le-trans}
 use Rattle.arithmetic.proofs.Next.{nextUp-fits, nextDown-fits, nextUp-lt, nextDown-lt}
 use Rattle.arithmetic.proofs.Enclosure.{Rounds, real, low-end, high-end, add-rounds, mul-rounds, div-rounds}
 use Rattle.range.specs.declared.basic.Range.{Range}
@@ -81,20 +81,6 @@ module _ (l : Float) (f : T (fits binary64 l)) where
       go false p = absurd p
 
 -- ---- the least and the greatest of doubles that are no NaN
-lt-le : (x y : Float) → T (lt x y) → T (le x y)
-unfolding lt le
-lt-le nan y h = absurd h
-lt-le (inf s) nan h = absurd h
-lt-le (fin s m e) nan h = absurd h
-lt-le (inf true) (inf true) h = tt
-lt-le (inf true) (inf false) h = tt
-lt-le (inf false) (inf t) h = absurd h
-lt-le (inf true) (fin t n d) h = tt
-lt-le (inf false) (fin t n d) h = absurd h
-lt-le (fin s m e) (inf true) h = absurd h
-lt-le (fin s m e) (inf false) h = tt
-lt-le (fin s m e) (fin t n d) h = ≼→le (fin s m e) (fin t n d) tt tt (≺→≼ (lt→≺ (fin s m e) (fin t n d) tt tt h))
-
 not-lt-le : (x y : Float) → T (le x x) → T (le y y) → T (not (lt y x)) → T (le x y)
 unfolding lt le
 not-lt-le nan y p q h = absurd p
@@ -116,7 +102,7 @@ not-lt-le (fin s m e) (fin t n d) p q h = elim (≼-or-≻ (value (fin s m e)) (
 module _ (x y : Float) (p : T (le x x)) (q : T (le y y)) where
   least-is : T (le (least x y) x) × T (le (least x y) y) × T (le (least x y) (least x y))
   unfolding least
-  least-is = go (lt y x) (lt-le y x) (not-lt-le x y p q)
+  least-is = go (lt y x) (lt→le y x) (not-lt-le x y p q)
     where
       go : (b : Bool) → (T b → T (le y x)) → (T (not b) → T (le x y)) → T (le (cond b y x) x) × T (le (cond b y x) y) × T (le (cond b y x) (cond b y x))
       go true h k = (h tt, q, q)
@@ -124,11 +110,11 @@ module _ (x y : Float) (p : T (le x x)) (q : T (le y y)) where
 
   greatest-is : T (le x (greatest x y)) × T (le y (greatest x y)) × T (le (greatest x y) (greatest x y))
   unfolding greatest
-  greatest-is = go (lt x y) (lt-le x y) (not-lt-le y x q p)
+  greatest-is = go (lt y x) (lt→le y x) (not-lt-le x y p q)
     where
-      go : (b : Bool) → (T b → T (le x y)) → (T (not b) → T (le y x)) → T (le x (cond b y x)) × T (le y (cond b y x)) × T (le (cond b y x) (cond b y x))
-      go true h k = (h tt, q, q)
-      go false h k = (p, k tt, p)
+      go : (b : Bool) → (T b → T (le y x)) → (T (not b) → T (le x y)) → T (le x (cond b x y)) × T (le y (cond b x y)) × T (le (cond b x y) (cond b x y))
+      go true h k = (p, h tt, p)
+      go false h k = (k tt, q, q)
 
 least-fits : (x y : Float) → T (fits binary64 x) → T (fits binary64 y) → T (fits binary64 (least x y))
 unfolding least
@@ -136,7 +122,7 @@ least-fits x y h k = cond-fits binary64 (lt y x) y x k h
 
 greatest-fits : (x y : Float) → T (fits binary64 x) → T (fits binary64 y) → T (fits binary64 (greatest x y))
 unfolding greatest
-greatest-fits x y h k = cond-fits binary64 (lt x y) y x k h
+greatest-fits x y h k = cond-fits binary64 (lt y x) x y h k
 
 -- ---- at each end of one range with each end of another
 pub record AtEnds (P : Float → Float → Type 0) (r s : Range) : Type 0 where

@@ -1,5 +1,6 @@
 -- The laws of the rules: what ends enclose, and how the code's tests meet the rules.
 pub mod Corners
+pub mod Positive
 pub mod Contained
 pub mod Operations
 pub mod Choosing

@@ -3,3 +3,4 @@ pub mod Rules
 pub mod Exact
 pub mod Enclosed
 pub mod Applied
+pub mod Positive

@@ -61,7 +61,7 @@ unfoldable pub least : Float → Float → Float
 least x y = cond (lt y x) y x
 
 unfoldable pub greatest : Float → Float → Float
-greatest x y = cond (lt x y) y x
+greatest x y = cond (lt y x) x y
 
 -- The least and the greatest of four: an operation at each end of r with each end of s.
 unfoldable pub four : (Float → Float → Float) → Range → Range → Range

@@ -9,6 +9,7 @@ ghost use lib.Dec.{T};
 ghost use lib.Ieee.{binary64};
 ghost use lib.Ieee.Scale.{finite};
 ghost use Rattle.arithmetic.specs.Basic.{above};
+ghost use Rattle.range.specs.Positive.{positive};
 ghost use Rattle.range.specs.Rules as Rules;
 ghost use Rattle.range.specs.Rules.{rules, ranges};
 
@@ -83,7 +84,7 @@ fn least(x: f64, y: f64) -> f64
 fn greatest(x: f64, y: f64) -> f64
     ensures { λ r. ⌜ r ≡ Rules.greatest x y ⌝ }
 {
-    if x < y { y } else { x }
+    if y < x { x } else { y }
 }
 
 impl Range {
@@ -122,6 +123,18 @@ impl Range {
         false
     }
 
+    // Whether its ends are above 0, in order and finite, as most are.
+    fn is_positive(self) -> bool
+        ensures { λ r. ⌜ r ≡ positive self ⌝ }
+    {
+        if self.lower > 0.0 {
+            if self.lower <= self.upper {
+                return self.upper <= LARGEST;
+            }
+        }
+        false
+    }
+
     // Whether it does not hold 0.
     fn is_apart(self) -> bool
         ensures { λ r. ⌜ r ≡ Rules.apart self ⌝ }
@@ -141,19 +154,12 @@ impl Range {
     pub fn add(self, other: Range) -> Range
         ensures { λ r. ⌜ r ≡ ranges .add self other ⌝ }
     {
-        if !self.is_ok() {
-            return failed();
+        if self.is_positive() {
+            if other.is_positive() {
+                return outwards(self.lower + other.lower, self.upper + other.upper);
+            }
         }
-        if !other.is_ok() {
-            return failed();
-        }
-        if self.is_zero() {
-            return other;
-        }
-        if other.is_zero() {
-            return self;
-        }
-        outwards(self.lower + other.lower, self.upper + other.upper)
+        sum_of(self, other)
     }
 
     pub fn sub(self, other: Range) -> Range
@@ -165,19 +171,12 @@ impl Range {
     pub fn mul(self, other: Range) -> Range
         ensures { λ r. ⌜ r ≡ ranges .mul self other ⌝ }
     {
-        if !self.is_ok() {
-            return failed();
+        if self.is_positive() {
+            if other.is_positive() {
+                return outwards(self.lower * other.lower, self.upper * other.upper);
+            }
         }
-        if !other.is_ok() {
-            return failed();
-        }
-        if self.is_zero() {
-            return Range::ZERO;
-        }
-        if other.is_zero() {
-            return Range::ZERO;
-        }
-        products(self, other)
+        product_of(self, other)
     }
 
     pub fn div(self, other: Range) -> Range
@@ -246,6 +245,44 @@ impl Range {
         let x = agreed(self.lower > t, self.upper > t, a, b);
         if self.is_ok() { x } else { failed() }
     }
+}
+
+// The sum of any two ranges.
+fn sum_of(r: Range, s: Range) -> Range
+    ensures { λ x. ⌜ x ≡ ranges .add r s ⌝ }
+{
+    if !r.is_ok() {
+        return failed();
+    }
+    if !s.is_ok() {
+        return failed();
+    }
+    if r.is_zero() {
+        return s;
+    }
+    if s.is_zero() {
+        return r;
+    }
+    outwards(r.lower + s.lower, r.upper + s.upper)
+}
+
+// The product of any two ranges.
+fn product_of(r: Range, s: Range) -> Range
+    ensures { λ x. ⌜ x ≡ ranges .mul r s ⌝ }
+{
+    if !r.is_ok() {
+        return failed();
+    }
+    if !s.is_ok() {
+        return failed();
+    }
+    if r.is_zero() {
+        return Range::ZERO;
+    }
+    if s.is_zero() {
+        return Range::ZERO;
+    }
+    products(r, s)
 }
 
 // One case for both ends: a where both have it, b where neither has.

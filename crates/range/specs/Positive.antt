@@ -1,0 +1,11 @@
+-- Ranges whose ends are above 0, in order and finite: most are, and the code has a shorter way for them.
+use mathlib.Core.Bool.{Bool, _&&_}
+use lib.Ieee.{Float, lt, le}
+use Rattle.arithmetic.specs.Constants.{bits, zeroD}
+use Rattle.range.specs.declared.basic.Range.{Range}
+
+abbrev pub largest : Float
+largest = bits 0x7FEFFFFFFFFFFFFF
+
+abbrev pub positive : Range → Bool
+positive r = lt zeroD (r .lower) && le (r .lower) (r .upper) && le (r .upper) largest
