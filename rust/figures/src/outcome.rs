@@ -1,8 +1,9 @@
 //! The answers of the proved library to a case, looked at before they are printed.
 
+use crate::arguments::Variable;
 use crate::failure::Failure;
 use crate::input::Input;
-use noddyfir::{Case, Ends, Energies, Range, Refusal, run_ends, run_energies};
+use noddyfir::{Case, Ends, Energies, Field, FieldAtFault, Range, Refusal, run_ends, run_energies};
 
 #[derive(Clone, Copy, Debug)]
 pub struct Outcome {
@@ -75,18 +76,34 @@ impl Outcome {
 }
 
 /// What helps where there are no ends.
-const HINT: &str = "A round ratio of temperature and epsilon_k, or a rep as 9, 12 or 18, is the usual cause: another \
-    temperature or density close by has ends (docs/DIFFERENCES.md, \"Records without ends\").";
+const HINT: &str = "The usual cause is a round ratio: of the temperature to an epsilon_k (0.75, 1.5, 2, 3), or of rep to \
+    att (9 to 6, or under WCA 12 to 6). A temperature or a rep close by has ends (docs/DIFFERENCES.md, \"Records without \
+    ends\").";
 
-/// The sentence of a refusal, with the field at fault. Fields of a sweep have no line of the file.
-pub fn explain(refusal: Refusal, case: &Case, input: &Input, with_line: bool) -> String {
+/// The sentence of a refusal, with the field at fault. What a sweep puts in has no line of the file.
+pub fn explain(refusal: Refusal, case: &Case, input: &Input, swept: Option<Variable>) -> String {
     let code = refusal.code().map_or(String::new(), |code| format!(" (code {code})"));
     let sentence = format!("Refused{code}. {refusal}");
     if refusal == Refusal::Ends {
         return format!("{sentence} {HINT}");
     }
-    let Some(fault) = case.field_at_fault() else { return sentence };
-    let line = input.line_of(fault.field).filter(|_| with_line);
+    let Some(fault) = case.field_at_fault().map(|fault| cause(case, fault)) else {
+        return sentence;
+    };
+    let by_sweep = match fault.field {
+        Field::Temperature => swept == Some(Variable::Temperature),
+        Field::PartialDensity(_) => swept == Some(Variable::Density),
+        _ => false,
+    };
+    let line = input.line_of(fault.field).filter(|_| !by_sweep);
     let place = line.map_or(String::new(), |line| format!("{}:{line}: ", input.file));
     format!("{place}{} {}. {sentence}", input.name_of(fault.field), fault.complaint())
+}
+
+/// A density that is the product of a total density and a fraction is outside because the fraction is, where that is.
+fn cause(case: &Case, fault: FieldAtFault) -> FieldAtFault {
+    let Field::PartialDensity(i) = fault.field else { return fault };
+    let fraction = FieldAtFault { field: Field::Molefrac(i), value: case.state().molefracs[i] };
+    let [least, greatest] = fraction.field.interval();
+    if least <= fraction.value && fraction.value <= greatest { fault } else { fraction }
 }

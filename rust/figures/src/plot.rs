@@ -56,6 +56,25 @@ fn gnuplot(script: &str) -> std::io::Result<Output> {
 
 const NAMES: [&str; 3] = ["hard sphere", "reference", "attractive"];
 
+/// What is set before each panel.
+const PANELS: [&str; 3] = [
+    "set title 'The energies and their ends'\n\
+     set format y '%.3g'\nset ylabel 'energy / kT per cubic angstrom'\n",
+    "set title 'How far the ends are from the energy'\n\
+     set logscale y\nset format y '%.0e'\nset ylabel 'distance from the value'\n",
+    "set title 'Certain figures: those that the lower and the upper end have in common'\n\
+     unset logscale y\nset format y '%g'\nset ylabel 'certain figures'\nset yrange [0:17.5]\nset ytics 0,2\n",
+];
+const VALUES: [&str; 2] = [
+    "1:3:4 with filledcurves fs transparent solid 0.3 lc COLOUR title 'NAME, its ends'",
+    "1:2 with lines lw 2 lc COLOUR title 'NAME'",
+];
+const ENDS: [&str; 2] = [
+    "1:6 with lines lc COLOUR title 'NAME, upper end'",
+    "1:5 with lines dt 2 lc COLOUR title 'NAME, lower end'",
+];
+const FIGURES: [&str; 1] = ["1:7 with points pt COLOUR ps 0.8 lc COLOUR title 'NAME'"];
+
 /// Three panels, one above the other, of the data that stand in the script.
 pub fn script(input: &Input, sweep: &Sweep, points: &[Point]) -> String {
     let mut script: String = (0..3).map(|energy| block(energy, points)).collect();
@@ -69,22 +88,12 @@ pub fn script(input: &Input, sweep: &Sweep, points: &[Point]) -> String {
     script += &format!(
         "set terminal pngcairo noenhanced size 1000,1200 font 'Sans,11'\n\
          set multiplot layout 3,1 title {title}\n\
-         set xlabel '{axis}'\nset grid\nset key outside right top\n\
-         set format y '%.3g'\nset ylabel 'energy / kT per cubic angstrom'\n{}\
-         set ylabel 'distance from the value'\nset logscale y\nset format y '%.0e'\n{}\
-         unset logscale y\nset format y '%g'\nset ylabel 'certain figures'\nset yrange [0:17.5]\nset ytics 0,2\n{}\
-         unset multiplot\n",
-        plot(&[
-            "1:2 with lines lw 2 title 'NAME'",
-            "1:3:4 with filledcurves fs transparent solid 0.3 title 'its ends'"
-        ]),
-        plot(&[
-            "1:6 with lines title 'NAME, upper end'",
-            "1:5 with lines dt 2 title 'NAME, lower end'"
-        ]),
-        plot(&["1:7 with linespoints pt 7 ps 0.4 title 'NAME'"]),
+         set lmargin at screen 0.11\nset rmargin at screen 0.74\n\
+         set xlabel '{axis}'\nset grid\nset key outside right top\n"
     );
-    script
+    let panels = [plot(&VALUES), plot(&ENDS), plot(&FIGURES)];
+    PANELS.iter().zip(panels).for_each(|(set, plot)| script += &format!("{set}{plot}"));
+    script + "unset multiplot\n"
 }
 
 fn densities(input: &Input) -> String {
@@ -96,7 +105,8 @@ fn densities(input: &Input) -> String {
 fn plot(columns: &[&str]) -> String {
     let one = |(energy, name): (usize, &&str)| {
         let curve = |text: &&str| {
-            format!("$energy{energy} using {} lc {}", text.replace("NAME", name), energy + 1)
+            let text = text.replace("COLOUR", &(energy + 1).to_string()).replace("NAME", name);
+            format!("$energy{energy} using {text}")
         };
         columns.iter().map(curve).collect::<Vec<_>>().join(", ")
     };

@@ -16,7 +16,7 @@ pub fn answer(input: &Input) -> Result<(), Failure> {
     }
     match outcome.refusal() {
         None => Ok(()),
-        Some(refusal) => Err(Failure::refused(explain(refusal, &case, input, true))),
+        Some(refusal) => Err(Failure::refused(explain(refusal, &case, input, None))),
     }
 }
 

@@ -23,7 +23,7 @@ pub fn answer(arguments: &Arguments, input: &Input, sweep: &Sweep) -> Result<(),
     if arguments.plot.is_some() {
         plot::find_gnuplot()?;
     }
-    let points = print_all(arguments.csv, input, sweep)?;
+    let points = print_all(arguments, input, sweep)?;
     if let Some(file) = &arguments.plot {
         plot::draw(file, input, sweep, &points)?;
     }
@@ -51,7 +51,9 @@ fn case(input: &Input, variable: Variable, at: f64) -> Case {
     })
 }
 
-fn print_all(as_csv: bool, input: &Input, sweep: &Sweep) -> Result<Vec<Point>, Failure> {
+/// Without a reader of the table, and without a picture to draw, the rest is not worked.
+fn print_all(arguments: &Arguments, input: &Input, sweep: &Sweep) -> Result<Vec<Point>, Failure> {
+    let as_csv = arguments.csv;
     let (values, mut points) = (values(sweep), Vec::new());
     let progress = Progress::new(values.len());
     let head = if as_csv {
@@ -70,6 +72,9 @@ fn print_all(as_csv: bool, input: &Input, sweep: &Sweep) -> Result<Vec<Point>, F
         progress.clear();
         open = open && print(&text)?;
         points.extend(part_points);
+        if !open && arguments.plot.is_none() {
+            break;
+        }
     }
     Ok(points)
 }
@@ -84,12 +89,8 @@ fn print(text: &str) -> Result<bool, Failure> {
 
 fn text(as_csv: bool, input: &Input, sweep: &Sweep, points: &[Point], cases: &[Case]) -> String {
     let line = |(point, case): (&Point, &Case)| {
-        let refusal = point.outcome.refusal();
-        // What came from the file has its line; what the sweep put in has none.
-        let from_file =
-            |field| input.case(input.state.clone()).field_at_fault().map(|f| f.field) == field;
-        let with_line = from_file(case.field_at_fault().map(|fault| fault.field));
-        let refusal = refusal.map(|refusal| explain(refusal, case, input, with_line));
+        let explained = |refusal| explain(refusal, case, input, Some(sweep.variable));
+        let refusal = point.outcome.refusal().map(explained);
         if as_csv {
             return csv::line(point.at, &point.outcome, refusal.as_deref());
         }
