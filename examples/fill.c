@@ -1,7 +1,7 @@
 /*
  * A fill of argon and methane: builds a case record, asks for its energies and their ends, and prints them.
  *
- *     ./library && cc -Iinclude examples/fill.c target/lib/libnoddyfir.a -o fill && ./fill
+ *     ./library && cc -Iinclude examples/fill.c target/lib/libnoddyfir.a -o target/fill && target/fill
  */
 #include "noddyfir.h"
 #include <stdio.h>

@@ -107,7 +107,7 @@ enum noddyfir_fault {
 
 /*
  * Looks at the mode of the processor's arithmetic, does a few operations whose results are known, and calls energies
- * and ends for a known case of each perturbation; it takes some microseconds. The proof assumes the default mode:
+ * and ends for a known case of each perturbation; it takes under a millisecond. The proof assumes the default mode:
  * rounding to nearest, subnormal numbers kept, no traps. A library that is linked with fast-math changes it for the
  * whole program. The mode belongs to a thread and can change: call this once in each thread before the first use, and
  * again after loading a library. On any other answer than 0, do not use the values.
