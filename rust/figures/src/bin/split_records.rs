@@ -7,6 +7,9 @@ use std::process::ExitCode;
 
 const MOST_BYTES: usize = 65_536;
 
+/// The last number of six figures.
+const MOST_PARTS: usize = 999_999;
+
 fn main() -> ExitCode {
     let [prefix] = &std::env::args().skip(1).collect::<Vec<_>>()[..] else {
         eprintln!("split_records PREFIX < records");
@@ -55,6 +58,9 @@ fn next(input: &mut impl Read, place: u64) -> io::Result<Option<Vec<u8>>> {
 }
 
 fn write(prefix: &str, number: usize, part: &[u8]) -> io::Result<()> {
+    if number > MOST_PARTS {
+        return Err(io::Error::other("over a million parts: their names would lose their order"));
+    }
     let name = format!("{prefix}{number:06}");
     let named = |error: io::Error| io::Error::new(error.kind(), format!("{name}: {error}"));
     File::create_new(&name).and_then(|mut file| file.write_all(part)).map_err(named)
