@@ -31,6 +31,7 @@ static void modes(void)
     expect(check_under(DEFAULT | 0x3f) == NODDYFIR_FIT, "flags of what happened before");
     expect(check_under(DEFAULT | 0x8000) == NODDYFIR_FAULT_SUBNORMALS, "results flushed to zero");
     expect(check_under(DEFAULT | 0x0040) == NODDYFIR_FAULT_SUBNORMALS, "operands flushed to zero");
+    expect(check_under(DEFAULT | 0x8040) == NODDYFIR_FAULT_SUBNORMALS, "both flushed to zero");
     expect(check_under(DEFAULT | 0x2000) == NODDYFIR_FAULT_ROUNDING, "rounding down");
     expect(check_under(DEFAULT | 0x4000) == NODDYFIR_FAULT_ROUNDING, "rounding up");
     expect(check_under(DEFAULT | 0x6000) == NODDYFIR_FAULT_ROUNDING, "rounding towards zero");
