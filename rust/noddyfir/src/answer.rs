@@ -1,0 +1,93 @@
+use crate::Refusal;
+use crate::bytes::{ENDS_SIZE, ENERGIES_SIZE, REFUSAL_SIZE};
+
+/// The three energies, each divided by kT, per cubic ångström.
+#[derive(Clone, Copy, Debug, PartialEq)]
+pub struct Energies {
+    /// The hard spheres.
+    pub hard_sphere: f64,
+    /// The reference perturbation.
+    pub reference: f64,
+    /// The attractive perturbation.
+    pub attractive: f64,
+}
+
+impl Energies {
+    /// With their names, in the order of an answer.
+    pub fn named(&self) -> [(&'static str, f64); 3] {
+        [
+            ("hard sphere", self.hard_sphere),
+            ("reference", self.reference),
+            ("attractive", self.attractive),
+        ]
+    }
+}
+
+/// The lower and the upper end of one energy.
+#[derive(Clone, Copy, Debug, PartialEq)]
+pub struct Range {
+    /// The lower end.
+    pub lower: f64,
+    /// The upper end.
+    pub upper: f64,
+}
+
+impl Range {
+    /// Whether the number lies between the ends, both included.
+    pub fn contains(&self, number: f64) -> bool {
+        self.lower <= number && number <= self.upper
+    }
+}
+
+/// The ends of the three energies.
+#[derive(Clone, Copy, Debug, PartialEq)]
+pub struct Ends {
+    /// Of the hard spheres.
+    pub hard_sphere: Range,
+    /// Of the reference perturbation.
+    pub reference: Range,
+    /// Of the attractive perturbation.
+    pub attractive: Range,
+}
+
+impl Ends {
+    /// In the order of an answer.
+    pub fn all(&self) -> [Range; 3] {
+        [self.hard_sphere, self.reference, self.attractive]
+    }
+}
+
+/// What an answer with code 0 holds.
+pub(crate) trait Answer: Sized {
+    /// The bytes of an answer with code 0.
+    const SIZE: usize;
+
+    fn of(doubles: &[f64]) -> Self;
+}
+
+impl Answer for Energies {
+    const SIZE: usize = ENERGIES_SIZE;
+
+    fn of(doubles: &[f64]) -> Self {
+        Self { hard_sphere: doubles[0], reference: doubles[1], attractive: doubles[2] }
+    }
+}
+
+impl Answer for Ends {
+    const SIZE: usize = ENDS_SIZE;
+
+    fn of(doubles: &[f64]) -> Self {
+        let range = |i: usize| Range { lower: doubles[2 * i], upper: doubles[2 * i + 1] };
+        Self { hard_sphere: range(0), reference: range(1), attractive: range(2) }
+    }
+}
+
+/// Reads the answer at the start of the bytes, and says how many it has.
+pub(crate) fn read<A: Answer>(bytes: &[u8]) -> (Result<A, Refusal>, usize) {
+    if let Some(refusal) = Refusal::from_code(bytes[3]) {
+        return (Err(refusal), REFUSAL_SIZE);
+    }
+    let double = |b: &[u8]| f64::from_be_bytes(b.try_into().expect("a chunk has 8 bytes"));
+    let doubles: Vec<f64> = bytes[REFUSAL_SIZE..A::SIZE].chunks_exact(8).map(double).collect();
+    (Ok(A::of(&doubles)), A::SIZE)
+}

@@ -1,0 +1,115 @@
+//! Why a case has no answer.
+
+use crate::self_check::Fault;
+use std::fmt::{self, Display, Formatter};
+
+/// Why a case has no answer: one of the ten codes of the specification (document 01), by the place of its check, or a
+/// fault of the arithmetic itself. The first code that applies counts.
+#[derive(Clone, Copy, Debug, PartialEq, Eq)]
+pub enum Refusal {
+    /// Code 1: the answer buffer is too short.
+    AnswerBuffer,
+    /// Code 2: the record is too short, or its length field is wrong.
+    Envelope,
+    /// Code 3: the version is not 1.
+    Version,
+    /// Code 4: the perturbation is unknown.
+    Perturbation,
+    /// Code 5: the number of substances is not from 1 to 8.
+    Components,
+    /// Code 6: the length is not that of the number of substances.
+    Size,
+    /// Code 7: a value of the substances is outside its interval.
+    Substances,
+    /// Code 8: a value of the state is outside its interval.
+    State,
+    /// Code 9: a value on the way is not finite, or a function has no rule for its argument.
+    Arithmetic,
+    /// Code 10: the energies have no ends. From the calls for ends only.
+    Ends,
+    /// Nothing was worked: the arithmetic of this thread is not as the proof assumes it.
+    Unfit(Fault),
+}
+
+/// By code, from 1 on, with the sentences that `c/sentences.c` has too.
+const CODES: [(Refusal, &str); 10] = [
+    (Refusal::AnswerBuffer, "The answer buffer is too short: energies need 28 bytes, ends 52."),
+    (
+        Refusal::Envelope,
+        "The record has under 5 bytes, or its length field is not the number of bytes that follow it.",
+    ),
+    (Refusal::Version, "The version of the record is not 1."),
+    (Refusal::Perturbation, "The perturbation is none of 0 (BH), 1 (WCA) and 2 (WCA-B3)."),
+    (Refusal::Components, "The number of substances is not from 1 to 8."),
+    (Refusal::Size, "The length of the record is not that of its number of substances."),
+    (
+        Refusal::Substances,
+        "A value of the substances is outside its interval: rep 8 to 48, att 5 to 7, sigma 0.5 to 10 angstrom, \
+         epsilon_k 0.1 to 5000 kelvin, k_ij -0.9 to 0.9.",
+    ),
+    (
+        Refusal::State,
+        "A value of the state is outside its interval: temperature 1 to 5000 kelvin, densities 0 to 2 per cubic \
+         angstrom, fractions 0 to 1 that add up to 1 within 2^-40.",
+    ),
+    (
+        Refusal::Arithmetic,
+        "A value on the way is not a finite number, or a function has no rule for its argument.",
+    ),
+    (
+        Refusal::Ends,
+        "The energies have no ends: on the way, a range holds numbers that take different cases of one rule, or a \
+         rule has no result for it.",
+    ),
+];
+
+impl Refusal {
+    /// The refusal with this code, 1 to 10.
+    ///
+    /// ```
+    /// use noddyfir::Refusal;
+    /// assert_eq!(Refusal::from_code(8), Some(Refusal::State));
+    /// assert_eq!(Refusal::from_code(0), None);
+    /// ```
+    pub fn from_code(code: u8) -> Option<Self> {
+        CODES.get(usize::from(code).checked_sub(1)?).map(|(refusal, _)| *refusal)
+    }
+
+    /// The code, 1 to 10; a fault of the arithmetic has none.
+    pub fn code(self) -> Option<u8> {
+        self.place().map(|place| place as u8 + 1)
+    }
+
+    /// A plain sentence.
+    ///
+    /// ```
+    /// use noddyfir::Refusal;
+    /// assert_eq!(Refusal::Version.sentence(), "The version of the record is not 1.");
+    /// ```
+    pub fn sentence(self) -> &'static str {
+        match (self, self.place()) {
+            (Self::Unfit(fault), _) => fault.sentence(),
+            (_, Some(place)) => CODES[place].1,
+            (_, None) => "No such code.",
+        }
+    }
+
+    fn place(self) -> Option<usize> {
+        CODES.iter().position(|&(refusal, _)| refusal == self)
+    }
+}
+
+impl Display for Refusal {
+    /// The sentence.
+    fn fmt(&self, f: &mut Formatter) -> fmt::Result {
+        f.write_str(self.sentence())
+    }
+}
+
+impl std::error::Error for Refusal {}
+
+impl From<Fault> for Refusal {
+    fn from(fault: Fault) -> Self {
+        Self::Unfit(fault)
+    }
+}
