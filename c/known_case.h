@@ -1,6 +1,6 @@
 /*
  * The known case of the self-check: argon and methane (80 to 20) at 293.15 kelvin and 0.005 molecules per cubic angstrom.
- * The answers are those of the programs target/bin/energies and target/bin/ends. rust/noddyfir/src/known.rs has the same bytes.
+ * The answers are those of the programs target/bin/energies and target/bin/ends. rust/noddyfir/build.rs takes these tables over for Rust.
  */
 #include "noddyfir.h"
 
