@@ -1,4 +1,4 @@
--- Ranges whose ends are above 0, in order and finite: most are, and the code has a shorter way for them.
+-- Ranges whose ends are above 0 and in order: most are, and the code has a shorter way for them.
 use mathlib.Core.Bool.{Bool, _&&_}
 use lib.Ieee.{Float, lt, le}
 use Rattle.arithmetic.specs.Constants.{bits, zeroD}
@@ -8,4 +8,4 @@ abbrev pub largest : Float
 largest = bits 0x7FEFFFFFFFFFFFFF
 
 abbrev pub positive : Range → Bool
-positive r = lt zeroD (r .lower) && le (r .lower) (r .upper) && le (r .upper) largest
+positive r = lt zeroD (r .lower) && le (r .lower) (r .upper)

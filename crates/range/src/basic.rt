@@ -6,10 +6,11 @@ use elementary::root::sqrt;
 ghost use mathlib.Core.Path.{_≡_};
 ghost use lib.Ieee as Ieee;
 ghost use lib.Dec.{T};
-ghost use lib.Ieee.{binary64};
+ghost use lib.Ieee.{binary64, lt, le};
 ghost use lib.Ieee.Scale.{finite};
 ghost use Rattle.arithmetic.specs.Basic.{above};
-ghost use Rattle.range.specs.Positive.{positive};
+ghost use Rattle.arithmetic.specs.Constants.{zeroD};
+ghost use Rattle.range.specs.Positive.{largest, positive};
 ghost use Rattle.range.specs.Rules as Rules;
 ghost use Rattle.range.specs.Rules.{rules, ranges};
 
@@ -54,20 +55,27 @@ pub fn ends(l: f64, u: f64) -> Range
 }
 
 // The largest double.
-const LARGEST: f64 = 1.7976931348623157e308;
+pub const LARGEST: f64 = 1.7976931348623157e308;
+
+// Each end moved to the next double outwards, for ends above 0, in order and below the largest double: their neighbours are the patterns before and behind.
+pub fn neighbours(l: f64, u: f64) -> Range
+    requires { ⌜ T (lt zeroD l) × T (le l u) × T (lt u largest) ⌝ }
+    ensures { λ r. ⌜ r ≡ Rules.outwards l u ⌝ }
+{
+    Range {
+        lower: f64::from_bits(f64::to_bits(l) - 1),
+        upper: f64::from_bits(f64::to_bits(u) + 1),
+    }
+}
 
 // Each end moved to the next double outwards.
-// Most ends are positive and below the largest double: their neighbours are the patterns before and behind.
 fn outwards(l: f64, u: f64) -> Range
     ensures { λ r. ⌜ r ≡ Rules.outwards l u ⌝ }
 {
     if l > 0.0 {
         if l <= u {
             if u < LARGEST {
-                return Range {
-                    lower: f64::from_bits(f64::to_bits(l) - 1),
-                    upper: f64::from_bits(f64::to_bits(u) + 1),
-                };
+                return neighbours(l, u);
             }
         }
     }
@@ -123,14 +131,12 @@ impl Range {
         false
     }
 
-    // Whether its ends are above 0, in order and finite, as most are.
-    fn is_positive(self) -> bool
+    // Whether its ends are above 0 and in order, as most are.
+    pub fn is_positive(self) -> bool
         ensures { λ r. ⌜ r ≡ positive self ⌝ }
     {
         if self.lower > 0.0 {
-            if self.lower <= self.upper {
-                return self.upper <= LARGEST;
-            }
+            return self.lower <= self.upper;
         }
         false
     }
@@ -151,15 +157,26 @@ impl Range {
         ends(-self.upper, -self.lower)
     }
 
+    // Most sums and products are of ranges above 0: these are worked here, so that the compiler can put them in their callers' place, and the others are calls.
     pub fn add(self, other: Range) -> Range
         ensures { λ r. ⌜ r ≡ ranges .add self other ⌝ }
     {
-        if self.is_positive() {
-            if other.is_positive() {
-                return outwards(self.lower + other.lower, self.upper + other.upper);
+        let l = self.lower + other.lower;
+        let u = self.upper + other.upper;
+        if self.lower > 0.0 {
+            if other.lower > 0.0 {
+                if l <= u {
+                    if u < LARGEST {
+                        return neighbours(l, u);
+                    }
+                }
             }
         }
-        sum_of(self, other)
+        let sum = sum_of(self.lower, self.upper, other.lower, other.upper);
+        Range {
+            lower: sum.lower,
+            upper: sum.upper,
+        }
     }
 
     pub fn sub(self, other: Range) -> Range
@@ -173,10 +190,20 @@ impl Range {
     {
         if self.is_positive() {
             if other.is_positive() {
-                return outwards(self.lower * other.lower, self.upper * other.upper);
+                let l = self.lower * other.lower;
+                let u = self.upper * other.upper;
+                if l > 0.0 {
+                    if u < LARGEST {
+                        return neighbours(l, u);
+                    }
+                }
             }
         }
-        product_of(self, other)
+        let product = product_of(self.lower, self.upper, other.lower, other.upper);
+        Range {
+            lower: product.lower,
+            upper: product.upper,
+        }
     }
 
     pub fn div(self, other: Range) -> Range
@@ -247,10 +274,18 @@ impl Range {
     }
 }
 
-// The sum of any two ranges.
-fn sum_of(r: Range, s: Range) -> Range
-    ensures { λ x. ⌜ x ≡ ranges .add r s ⌝ }
+// The sum of any two ranges, by their ends.
+pub fn sum_of(rl: f64, ru: f64, sl: f64, su: f64) -> Range
+    ensures { λ x. ⌜ x ≡ ranges .add (Rules.range rl ru) (Rules.range sl su) ⌝ }
 {
+    let r = Range {
+        lower: rl,
+        upper: ru,
+    };
+    let s = Range {
+        lower: sl,
+        upper: su,
+    };
     if !r.is_ok() {
         return failed();
     }
@@ -266,10 +301,18 @@ fn sum_of(r: Range, s: Range) -> Range
     outwards(r.lower + s.lower, r.upper + s.upper)
 }
 
-// The product of any two ranges.
-fn product_of(r: Range, s: Range) -> Range
-    ensures { λ x. ⌜ x ≡ ranges .mul r s ⌝ }
+// The product of any two ranges, by their ends.
+pub fn product_of(rl: f64, ru: f64, sl: f64, su: f64) -> Range
+    ensures { λ x. ⌜ x ≡ ranges .mul (Rules.range rl ru) (Rules.range sl su) ⌝ }
 {
+    let r = Range {
+        lower: rl,
+        upper: ru,
+    };
+    let s = Range {
+        lower: sl,
+        upper: su,
+    };
     if !r.is_ok() {
         return failed();
     }

@@ -1,124 +1,19 @@
--- Positive ends: the patterns before and behind are the neighbours', both are finite, and none is -0.
-use mathlib.Core.Path.{_≡_, refl, sym, ap, ap₂, subst, _∙_}
-use Prim.Native.Nat.{ℕ, _+_, _-_, _<_}
-use native.Mathlib.Omega.{arith}
-use mathlib.Core.Bool.{Bool, true, false, not, cond, _&&_}
+-- The three tests are what `neighbours` asks.
+use mathlib.Core.Path.{sym, subst}
 use lib.Dec.{T}
-use lib.Ieee.{Float, nan, binary64, fits, lt, le, eq, toBits, ofBits, nanBits}
-use lib.Ieee.Bits.{is-true}
-use lib.Ieee.Scale.{finite}
-use Rattle.arithmetic.specs.Constants.{zeroD}
-use Rattle.arithmetic.specs.Fraction.{_≺_, null}
-use Rattle.arithmetic.specs.Value.{value}
-use Rattle.arithmetic.specs.Next.{nextUp, nextDown}
-use Rattle.arithmetic.proofs.Fraction.{≺-≼-trans}
-use Rattle.arithmetic.proofs.Value.{le→≼, lt→le, le-trans, finite-between}
-use Rattle.arithmetic.proofs.Next.{bitsUp-plus, bitsDown-plus, pattern-finite, real-plus, finite-not-nan}
-use Rattle.arithmetic.proofs.Zero.{above-zero, positive-pattern, plus-pattern-zero, largest, below-largest}
-use Rattle.range.specs.Rules.{range, failed, plusZero, before, after}
 use Rattle.range.specs.Rules as Rules
 use Rattle.range.proofs.basic.outwards.Statement.{statement}
 use Rattle.range.proofs.basic.outwards.Tie as tie
 
--- ---- the rule of two ends whose patterns are below the infinity's
-plus-zero-is : (a : ℕ) → a < 0x7ff0_0000_0000_0000 → plusZero (ofBits binary64 a) ≡ ofBits binary64 a
-plus-zero-is a h = go (eq (ofBits binary64 a) zeroD) refl
-  where
-    go : (b : Bool) → eq (ofBits binary64 a) zeroD ≡ b → cond b zeroD (ofBits binary64 a) ≡ ofBits binary64 a
-    go true e = sym (plus-pattern-zero a h e)
-    go false e = refl
-
-ends-are : (a b : ℕ) → a < 0x7ff0_0000_0000_0000 → b < 0x7ff0_0000_0000_0000 → Rules.ends (ofBits binary64 a) (ofBits binary64 b) ≡ range (ofBits binary64 a) (ofBits binary64 b)
-unfolding Rules.ends
-ends-are a b h k =
-    let x = ofBits binary64 a in
-    let y = ofBits binary64 b in
-    ap₂ (λ (s t : Bool). cond (s && t) (range (plusZero x) (plusZero y)) failed) (is-true (finite x) (pattern-finite binary64 a h)) (is-true (finite y) (pattern-finite binary64 b k))
-    ∙ ap₂ range (plus-zero-is a h) (plus-zero-is b k)
-
--- ---- what the three tests say
-record Positive (l u : Float) : Type 0 where
-  fits-l : T (fits binary64 l)
-  fits-u : T (fits binary64 u)
-  from-zero : T (lt zeroD l)
-  in-order : T (le l u)
-  to-largest : T (lt u largest)
-
-module _ (l u : Float) (p : Positive l u) where
-  zero-le : T (le zeroD l)
-  zero-le = lt→le zeroD l (p .from-zero)
-
-  u-finite : T (finite u)
-  u-finite = finite-between zeroD u largest (pattern-finite binary64 0 (omega arith)) (pattern-finite binary64 0x7fef_ffff_ffff_ffff (omega arith)) (le-trans zeroD l u zero-le (p .in-order)) (lt→le u largest (p .to-largest))
-
-  l-finite : T (finite l)
-  l-finite = finite-between zeroD l u (pattern-finite binary64 0 (omega arith)) u-finite zero-le (p .in-order)
-
-  l-above : null ≺ value l
-  l-above = above-zero l l-finite (is-true (lt zeroD l) (p .from-zero))
-
-  l-pattern : (0 < toBits binary64 l) × (toBits binary64 l < 0x7ff0_0000_0000_0000)
-  l-pattern = positive-pattern l (p .fits-l) l-finite l-above
-
-  u-pattern : toBits binary64 u < 0x7fef_ffff_ffff_ffff
-  u-pattern = below-largest u (p .fits-u) u-finite (≺-≼-trans l-above (le→≼ l u l-finite u-finite (p .in-order))) (is-true (lt u largest) (p .to-largest))
-
-  before-is : before l ≡ ofBits binary64 (toBits binary64 l - 1)
-  unfolding nextDown
-  before-is =
-      ap (λ (b : Bool). cond b (nextDown binary64 l) nan) (is-true (finite l) l-finite)
-      ∙ ap (ofBits binary64) (bitsDown-plus binary64 (toBits binary64 l) (l-pattern .0) (omega (arith, l-pattern .1)))
-
-  after-is : after u ≡ ofBits binary64 (toBits binary64 u + 1)
-  unfolding nextUp
-  after-is =
-      ap (λ (b : Bool). cond b (nextUp binary64 u) nan) (is-true (finite u) u-finite)
-      ∙ ap (ofBits binary64) (bitsUp-plus binary64 (toBits binary64 u) (omega (arith, u-pattern)))
-
-  neighbours : range (ofBits binary64 (toBits binary64 l - 1)) (ofBits binary64 (toBits binary64 u + 1)) ≡ Rules.outwards l u
-  unfolding Rules.outwards
-  neighbours = sym (ap₂ Rules.ends before-is after-is ∙ ends-are (toBits binary64 l - 1) (toBits binary64 u + 1) (omega (arith, l-pattern .1)) (omega (arith, u-pattern)))
-
--- ---- the needs
-abbrev lower : tie.Then3 → Float
-lower c = c .before .before .before .args .l
-
-abbrev upper : tie.Then3 → Float
-upper c = c .before .before .before .args .u
-
-tested : (c : tie.Then3) → Positive (lower c) (upper c)
-tested c = record {
-  fits-l = subst T (sym (c .before .before .before .good .0 .1)) tt;
-  fits-u = subst T (sym (c .before .before .before .good .1 .0 .1)) tt;
-  from-zero = subst T (sym (c .before .before .if1 .taken)) tt;
-  in-order = subst T (sym (c .before .if2 .taken)) tt;
-  to-largest = subst T (sym (c .if3 .taken)) tt;
-}
-
-float-to-bits-t6 : tie.Need-float-to-bits-t6
-float-to-bits-t6 c = finite-not-nan (lower c) (l-finite (lower c) (upper c) (tested c))
-
-sub-t7 : tie.Need-sub-t7
-sub-t7 c = l-pattern (lower c) (upper c) (tested c) .0
-
-float-from-bits-t8 : tie.Need-float-from-bits-t8
-float-from-bits-t8 c = let h = l-pattern (lower c) (upper c) (tested c) .1 in real-plus binary64 (toBits binary64 (lower c) - 1) (omega (arith, h)) (omega (arith, h))
-
-float-to-bits-t9 : tie.Need-float-to-bits-t9
-float-to-bits-t9 c = finite-not-nan (upper c) (u-finite (lower c) (upper c) (tested c))
-
-add-t10 : tie.Need-add-t10
-add-t10 c = omega (arith, u-pattern (lower c) (upper c) (tested c))
-
-float-from-bits-t11 : tie.Need-float-from-bits-t11
-float-from-bits-t11 c = let h = u-pattern (lower c) (upper c) (tested c) in real-plus binary64 (toBits binary64 (upper c) + 1) (omega (arith, h)) (omega (arith, h))
+neighbours-requires : tie.Need-neighbours-requires
+neighbours-requires c κs = (subst T (sym (c .before .before .if1 .taken)) tt, subst T (sym (c .before .if2 .taken)) tt, subst T (sym (c .if3 .taken)) tt)
 
 returns : tie.Need-returns
-returns c = neighbours (lower c) (upper c) (tested c)
+returns c = c .neighbours .ensures
 
 returns-2 : tie.Need-returns-2
 unfolding Rules.outwards
 returns-2 c = rw (c .ends .ensures, c .before .next-up .ensures, c .before .before .next-down .ensures)
 
 pub outwards-spec : {M : Type 1} → statement M
-outwards-spec = tie.close (tie.spec float-to-bits-t6 sub-t7 float-from-bits-t8 float-to-bits-t9 add-t10 float-from-bits-t11 returns (λ c κs. tt) (λ c κs. tt) (λ c κs. tt) returns-2)
+outwards-spec = tie.close (tie.spec neighbours-requires returns (λ c κs. tt) (λ c κs. tt) (λ c κs. tt) returns-2)

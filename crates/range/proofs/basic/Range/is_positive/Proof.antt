@@ -1,15 +1,12 @@
--- By the three tests.
+-- By the two tests.
 use Rattle.range.proofs.basic.Range.is_positive.Statement.{statement}
 use Rattle.range.proofs.basic.Range.is_positive.Tie as tie
 
 returns : tie.Need-returns
-returns c = rw (c .before .before .before .if1 .taken, c .before .if2 .taken)
+returns c = rw (c .before .if1 .taken)
 
 returns-2 : tie.Need-returns-2
-returns-2 c = rw (c .before .before .if1 .taken, c .if2 .left)
-
-returns-3 : tie.Need-returns-3
-returns-3 c = rw (c .if1 .left)
+returns-2 c = rw (c .if1 .left)
 
 pub is-positive-spec : {M : Type 1} → statement M
-is-positive-spec = tie.close (tie.spec returns returns-2 returns-3)
+is-positive-spec = tie.close (tie.spec returns returns-2)
