@@ -1,6 +1,7 @@
 -- The laws of the rules: what ends enclose, and how the code's tests meet the rules.
 pub mod Corners
 pub mod Positive
+pub mod Negative
 pub mod Contained
 pub mod Operations
 pub mod Choosing

@@ -25,16 +25,16 @@ use Rattle.range.specs.Rules.{ok, isZero, least, greatest, outwards}
 use Rattle.range.specs.Rules as Rules
 
 -- ---- doubles above zero
-zero-finite : T (finite zeroD)
+pub zero-finite : T (finite zeroD)
 zero-finite = pattern-finite binary64 0 (omega arith)
 
 pub to-largest : (x : Float) → T (le zeroD x) → T (lt x largest) → T (finite x)
 to-largest x h k = finite-between zeroD x largest zero-finite (pattern-finite binary64 0x7fef_ffff_ffff_ffff (omega arith)) h (lt→le x largest k)
 
-positive-value : (x : Float) → T (finite x) → T (lt zeroD x) → null ≺ value x
+pub positive-value : (x : Float) → T (finite x) → T (lt zeroD x) → null ≺ value x
 positive-value x p h = above-zero x p (is-true (lt zeroD x) h)
 
-above-nonzero : (x : Float) → T (fits binary64 x) → null ≺ value x → eq x zeroD ≡ false
+pub above-nonzero : (x : Float) → T (fits binary64 x) → null ≺ value x → eq x zeroD ≡ false
 above-nonzero x f z = go (eq x zeroD) refl
   where
     no : (s : Bool) → null ≺ value (fin s 0 (pos 0)) → ⊥
@@ -45,7 +45,7 @@ above-nonzero x f z = go (eq x zeroD) refl
     go true e = let w = is-zero x f e in absurd (no (w .0) (subst (λ (y : Float). null ≺ value y) (w .1) z))
     go false e = e
 
-positive-lt : (x : Float) → T (finite x) → null ≺ value x → T (lt zeroD x)
+pub positive-lt : (x : Float) → T (finite x) → null ≺ value x → T (lt zeroD x)
 unfolding Ieee.ofBits
 positive-lt x p h = ≺→lt zeroD x tt p (record { cross = h .cross })
 
@@ -64,7 +64,7 @@ still-positive (fin s m e) (fin t n d) h k = positive-lt (fin t n d) tt (≺-≼
 
 -- ---- sums and products that are not infinite
 -- the terms of a finite sum are finite
-terms-finite : (x y : Float) → T (finite (Ieee.add binary64 x y)) → T (finite x) × T (finite y)
+pub terms-finite : (x y : Float) → T (finite (Ieee.add binary64 x y)) → T (finite x) × T (finite y)
 unfolding Ieee.add
 terms-finite nan y h = absurd h
 terms-finite (inf s) nan h = absurd h
@@ -127,11 +127,11 @@ module _ (r : Range) (f : T (fits binary64 (r .lower))) (h : positive r ≡ true
   in-order : T (le (r .lower) (r .upper))
   in-order = and-r (lt zeroD (r .lower)) (le (r .lower) (r .upper)) (subst T (sym h) tt)
 
-  high : T (lt zeroD (r .upper))
+  pub high : T (lt zeroD (r .upper))
   high = still-positive (r .lower) (r .upper) low in-order
 
   module _ (U : T (finite (r .upper))) where
-    lower-finite : T (finite (r .lower))
+    pub lower-finite : T (finite (r .lower))
     lower-finite = finite-between zeroD (r .lower) (r .upper) zero-finite U (lt→le zeroD (r .lower) low) in-order
 
     above : null ≺ value (r .lower)
@@ -143,7 +143,7 @@ module _ (r : Range) (f : T (fits binary64 (r .lower))) (h : positive r ≡ true
     has-ends : ok r ≡ true
     has-ends = ap₂ (λ (a b : Bool). a && b) (is-true (finite (r .lower)) lower-finite) (is-true (finite (r .upper)) U)
 
-    no-zero : isZero r ≡ false
+    pub no-zero : isZero r ≡ false
     no-zero = ap (λ (b : Bool). b && eq (r .upper) zeroD) (above-nonzero (r .lower) f above)
 
 -- ---- the order of rounded products
@@ -162,11 +162,11 @@ not-lt (fin s m e) (inf true) h = absurd h
 not-lt (fin s m e) (inf false) h = refl
 not-lt (fin s m e) (fin t n d) h = is-false (lt (fin t n d) (fin s m e)) (subst T (le-is (fin s m e) (fin t n d) tt tt) h)
 
-first-least : (x y : Float) → T (le x y) → least x y ≡ x
+pub first-least : (x y : Float) → T (le x y) → least x y ≡ x
 unfolding least
 first-least x y h = rw (not-lt x y h)
 
-second-greatest : (x y : Float) → T (le x y) → greatest x y ≡ y
+pub second-greatest : (x y : Float) → T (le x y) → greatest x y ≡ y
 unfolding greatest
 second-greatest x y h = rw (not-lt x y h)
 
@@ -235,16 +235,16 @@ module _ (r s : Range) (t : Factors r s) where
     s-high = ≼-trans s-low (values s (t .fits-s) (t .positive-s) W)
 
     -- the four products in their order
-    first-row : T (le (m (r .lower) (s .lower)) (m (r .lower) (s .upper)))
+    pub first-row : T (le (m (r .lower) (s .lower)) (m (r .lower) (s .upper)))
     first-row = grows (r .lower) (r .lower) (s .lower) (s .upper) rl rl sl W r-low s-high (≼-refl (value (r .lower))) (values s (t .fits-s) (t .positive-s) W)
 
-    second-row : T (le (m (r .upper) (s .lower)) (m (r .upper) (s .upper)))
+    pub second-row : T (le (m (r .upper) (s .lower)) (m (r .upper) (s .upper)))
     second-row = grows (r .upper) (r .upper) (s .lower) (s .upper) U U sl W (≼-trans r-low (values r (t .fits-r) (t .positive-r) U)) s-high (≼-refl (value (r .upper))) (values s (t .fits-s) (t .positive-s) W)
 
-    first-column : T (le (m (r .lower) (s .lower)) (m (r .upper) (s .lower)))
+    pub first-column : T (le (m (r .lower) (s .lower)) (m (r .upper) (s .lower)))
     first-column = grows (r .lower) (r .upper) (s .lower) (s .lower) rl U sl sl r-low s-low (values r (t .fits-r) (t .positive-r) U) (≼-refl (value (s .lower)))
 
-    second-column : T (le (m (r .lower) (s .upper)) (m (r .upper) (s .upper)))
+    pub second-column : T (le (m (r .lower) (s .upper)) (m (r .upper) (s .upper)))
     second-column = grows (r .lower) (r .upper) (s .upper) (s .upper) rl U W W r-low s-high (values r (t .fits-r) (t .positive-r) U) (≼-refl (value (s .upper)))
 
     pub product-in-order : T (le (m (r .lower) (s .lower)) (m (r .upper) (s .upper)))

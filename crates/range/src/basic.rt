@@ -79,6 +79,28 @@ fn outwards(l: f64, u: f64) -> Range
             }
         }
     }
+    outwards_below(l, u)
+}
+
+// The same; for ends below 0 by those of the opposite range.
+fn outwards_below(l: f64, u: f64) -> Range
+    ensures { λ r. ⌜ r ≡ Rules.outwards l u ⌝ }
+{
+    let a = -u;
+    let b = -l;
+    if a > 0.0 {
+        if a <= b {
+            if b < LARGEST {
+                let n = neighbours(a, b);
+                if n.lower > 0.0 {
+                    return Range {
+                        lower: -n.upper,
+                        upper: -n.lower,
+                    };
+                }
+            }
+        }
+    }
     ends(next_down(l), next_up(u))
 }
 

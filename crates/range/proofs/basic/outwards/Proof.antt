@@ -1,7 +1,6 @@
 -- The three tests are what `neighbours` asks.
 use mathlib.Core.Path.{sym, subst}
 use lib.Dec.{T}
-use Rattle.range.specs.Rules as Rules
 use Rattle.range.proofs.basic.outwards.Statement.{statement}
 use Rattle.range.proofs.basic.outwards.Tie as tie
 
@@ -12,8 +11,7 @@ returns : tie.Need-returns
 returns c = c .neighbours .ensures
 
 returns-2 : tie.Need-returns-2
-unfolding Rules.outwards
-returns-2 c = rw (c .ends .ensures, c .before .next-up .ensures, c .before .before .next-down .ensures)
+returns-2 c = c .outwards-below .ensures
 
 pub outwards-spec : {M : Type 1} → statement M
-outwards-spec = tie.close (tie.spec neighbours-requires returns (λ c κs. tt) (λ c κs. tt) (λ c κs. tt) returns-2)
+outwards-spec = tie.close (tie.spec neighbours-requires returns (λ c κs. tt) returns-2)

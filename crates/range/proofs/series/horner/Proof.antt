@@ -27,10 +27,10 @@ loop-holds c =
 
 loop-again : tie.Need-loop-again Inv-loop μ-loop
 loop-again c =
-    let loop = c .before .before .before .before .before .loop in
-    let l = c .before .before .before .before .before .before .before .before .before .args .c .now in
+    let loop = c .before .before .before .loop in
+    let l = c .before .before .before .before .before .before .before .args .c .now in
     let e : loop .k - 1 + 1 ≡ loop .k = omega arith in
-    (omega arith, rw (e, drop-cons l (loop .k) nan (loop .inv .0), c .add .ensures, c .before .before .before .mul .ensures, c .before .point2 .ensures, rw (add-one (loop .k)) at (loop .inv .1)))
+    (omega arith, rw (e, drop-cons l (loop .k) nan (loop .inv .0), c .step .ensures, rw (add-one (loop .k)) at (loop .inv .1)))
 
 returns : tie.Need-returns Inv-loop μ-loop
 returns c = let e : c .before .loop .k ≡ 0 = omega arith in rw e at (c .before .loop .inv .1)
@@ -38,4 +38,4 @@ returns c = let e : c .before .loop .k ≡ 0 = omega arith in rw e at (c .before
 pub horner-spec : {M : Type 1} → statement M
 horner-spec =
     tie.close
-    (tie.spec Inv-loop μ-loop (λ c. search needs) (λ c. search needs) (λ c. search needs) (λ c κs. tt) loop-holds (λ c. search needs) (λ c κs. tt) (λ c. search needs) (λ c. search needs) (λ c κs. tt) (λ c κs. tt) (λ c. search needs) loop-again returns)
+    (tie.spec Inv-loop μ-loop (λ c. search needs) (λ c. search needs) (λ c. search needs) (λ c κs. tt) loop-holds (λ c. search needs) (λ c. search needs) (λ c. search needs) (λ c κs. tt) (λ c. search needs) loop-again returns)
