@@ -17,3 +17,4 @@ pub mod Points
 pub mod Testing
 pub mod Place
 pub mod Mantissa
+pub mod PowerOfOne

@@ -12,12 +12,12 @@ use elementary::exponential::power_of_two;
 use elementary::next::next_down;
 use elementary::next::next_up;
 ghost use mathlib.Core.Path.{_≡_};
-ghost use mathlib.Core.Bool.{true, false, cond};
+ghost use mathlib.Core.Bool.{true, false, cond, not, _&&_};
 ghost use lib.Dec.{T};
 ghost use lib.IntN.{pos, negsuc};
 ghost use lib.Signed.{leZ};
 ghost use lib.Ieee as Ieee;
-ghost use lib.Ieee.{binary64, lt, eq};
+ghost use lib.Ieee.{binary64, fits, lt, le, eq};
 ghost use Rattle.arithmetic.specs.Basic.{floor};
 ghost use Rattle.arithmetic.specs.Constants as K;
 ghost use Rattle.arithmetic.specs.Recipes as R;
@@ -87,7 +87,38 @@ fn exp_between(v: Range) -> Range
     exp_of(v, k)
 }
 
+// Whether a power of [1, 1] by it is known: it lies between -1000 and 1000, with its ends in order, and does not start at 0.
+fn is_moderate(b: Range) -> bool
+    ensures { λ r. ⌜ (r ≡ (le (Ieee.neg (K.bits 0x408F400000000000)) (b .lower) && le (b .lower) (b .upper) && le (b .upper) (K.bits 0x408F400000000000) && not (eq (b .lower) K.zeroD)))
+        × T (fits binary64 (b .lower)) × T (fits binary64 (b .upper)) ⌝ }
+{
+    if b.lower >= -1000.0 {
+        if b.lower <= b.upper {
+            if b.upper <= 1000.0 {
+                return b.lower != 0.0;
+            }
+        }
+    }
+    false
+}
+
 impl Range {
+    // What a moderate power of [1, 1] is: the doubles before and after 1.
+    const AROUND_ONE: Range = Range {
+        lower: 0.9999999999999999,
+        upper: 1.0000000000000002,
+    };
+
+    // Whether it is [1, 1].
+    fn is_one(self) -> bool
+        ensures { λ r. ⌜ (r ≡ (eq (self .lower) K.one && eq (self .upper) K.one)) × T (fits binary64 (self .lower)) × T (fits binary64 (self .upper)) ⌝ }
+    {
+        if self.lower == 1.0 {
+            return self.upper == 1.0;
+        }
+        false
+    }
+
     // e^v. Below -700 it is 0; above 700 there is no rule.
     pub fn exp(self) -> Range
         ensures { λ r. ⌜ r ≡ ranges .exp self ⌝ }
@@ -97,9 +128,15 @@ impl Range {
     }
 
     // v^b, as exp(b * ln v). A base of 0 gives 0 where b is above 0.
+    // A moderate power of [1, 1] is known, and is not worked, since products with the subnormal ends of its logarithm are slow.
     pub fn powf(self, b: Range) -> Range
         ensures { λ r. ⌜ r ≡ ranges .powf self b ⌝ }
     {
+        if self.is_one() {
+            if is_moderate(b) {
+                return Range::AROUND_ONE;
+            }
+        }
         let zero = b.if_above(0.0, Range::ZERO, failed());
         let other = self.if_below(0.0, failed(), zero);
         self.if_above(0.0, b.mul(self.ln()).exp(), other)

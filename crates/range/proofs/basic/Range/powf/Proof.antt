@@ -1,8 +1,18 @@
-use Rattle.arithmetic.specs.Recipes as R
+-- A moderate power of [1, 1] by its law, else as the recipe has it.
+use mathlib.Core.Path.{sym, subst, _∙_}
+use lib.Dec.{T}
 use lib.Ieee.{ofBits, neg}
+use Rattle.arithmetic.specs.Recipes as R
 use Rattle.range.proofs.Points.{zero-point}
+use Rattle.range.proofs.PowerOfOne.{tested-power}
 use Rattle.range.proofs.basic.Range.powf.Statement.{statement}
 use Rattle.range.proofs.basic.Range.powf.Tie as tie
+
+returns : tie.Need-returns
+returns c =
+    let one = c .before .before .before .is-one .ensures in
+    let moderate = c .before .is-moderate .ensures in
+    sym (tested-power _ _ (one .1) (one .2) (moderate .1) (moderate .2) (subst T (sym (sym (one .0) ∙ c .before .before .if1 .taken)) tt) (subst T (sym (sym (moderate .0) ∙ c .if2 .taken)) tt))
 
 if-above-requires : tie.Need-if-above-requires
 unfolding ofBits neg
@@ -16,9 +26,9 @@ if-above-requires-2 : tie.Need-if-above-requires-2
 unfolding ofBits neg
 if-above-requires-2 c κs = tt
 
-returns : tie.Need-returns
+returns-2 : tie.Need-returns-2
 unfolding R.powf
-returns c = rw (c .if-above2 .ensures, c .before .exp .ensures, c .before .before .mul .ensures, c .before .before .before .ln .ensures, c .before .before .before .before .if-below .ensures, c .before .before .before .before .before .failed2 .ensures, c .before .before .before .before .before .before .if-above .ensures, c .before .before .before .before .before .before .before .failed .ensures, zero-point)
+returns-2 c = rw (c .if-above2 .ensures, c .before .exp .ensures, c .before .before .mul .ensures, c .before .before .before .ln .ensures, c .before .before .before .before .if-below .ensures, c .before .before .before .before .before .failed2 .ensures, c .before .before .before .before .before .before .if-above .ensures, c .before .before .before .before .before .before .before .failed .ensures, zero-point)
 
 pub powf-spec : {M : Type 1} → statement M
-powf-spec = tie.close (tie.spec (λ c κs. tt) if-above-requires (λ c κs. tt) if-below-requires (λ c κs. tt) (λ c κs. tt) (λ c κs. tt) if-above-requires-2 returns)
+powf-spec = tie.close (tie.spec (λ c κs. tt) (λ c κs. tt) returns (λ c κs. tt) if-above-requires (λ c κs. tt) if-below-requires (λ c κs. tt) (λ c κs. tt) (λ c κs. tt) if-above-requires-2 returns-2)
