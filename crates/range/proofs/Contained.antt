@@ -130,7 +130,7 @@ Between l u h = T (finite h) × Within l u (value h)
 pub range-certain : (r : Range) (h : Float) (q : Fraction) → OfDoubles r → T (fits binary64 h) → Between (r .lower) (r .upper) h → In r q → Certain (checked h) r q
 range-certain r h q f fh (F, w) v = rw (checked-is h F) (record { double = fh; number = F; ends = f; near = w; exact = v })
 
-finite-ends : (l u : Float) → Ok (ends l u) → T (finite l) × T (finite u)
+pub finite-ends : (l u : Float) → Ok (ends l u) → T (finite l) × T (finite u)
 unfolding ends
 finite-ends l u = go (finite l) (finite u) (λ t. t) (λ t. t)
   where
@@ -190,7 +190,7 @@ none-contained = record { where-ok = λ p. p }
 neg-within : (l u : Float) (q : Fraction) → Within l u q → Within (Ieee.neg u) (Ieee.neg l) (opp q)
 neg-within l u q w = record { low = rw (value-neg u) (opp-anti (w .high)); high = rw (value-neg l) (opp-anti (w .low)) }
 
-finite-back : (x : Float) → T (finite (Ieee.neg x)) → T (finite x)
+pub finite-back : (x : Float) → T (finite (Ieee.neg x)) → T (finite x)
 unfolding Ieee.neg
 finite-back nan p = p
 finite-back (inf s) p = p
