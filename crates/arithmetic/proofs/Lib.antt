@@ -14,5 +14,6 @@ pub mod Tests
 pub mod Exact
 pub mod Both
 pub mod Agreement
+pub mod Failures
 pub mod Rows
 pub mod Example

@@ -11,3 +11,4 @@ pub mod Recipes
 pub mod Arithmetic
 pub mod Sums
 pub mod Doubles
+pub mod Failures

@@ -10,7 +10,7 @@ pub mod Scaling
 pub mod Root
 pub mod Recipes
 pub mod Certified
-pub mod Strict
+pub mod Failures
 pub mod Carried
 pub mod Example
 pub mod Rows
