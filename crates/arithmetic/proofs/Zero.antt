@@ -15,6 +15,7 @@ use lib.Ieee.Exact.{HasValue}
 use lib.Ieee.Scale.{finite}
 use Rattle.arithmetic.specs.Fraction.{_≼_, _≺_, null}
 use Rattle.arithmetic.specs.Value.{value}
+use Rattle.arithmetic.specs.Constants.{largest}
 use Rattle.arithmetic.proofs.Fraction.{≺-not-≼, ≼-trans, ≺-irrefl}
 use Rattle.arithmetic.proofs.Value.{value-is, lt→≺}
 use Rattle.arithmetic.proofs.Next.{size-of, read-plus, read-minus, fields-value, below-inf, pattern-finite}
@@ -95,9 +96,6 @@ plus-pattern-zero c h t =
     z .1 ∙ plus-sign (z .0) (size-of binary64 c) (2 ^ 1074) (subst (λ (y : Float). HasValue y false (size-of binary64 c) (2 ^ 1074)) (z .1) v)
 
 -- ---- between zero and the largest double
-abbrev pub largest : Float
-largest = ofBits binary64 0x7fef_ffff_ffff_ffff
-
 pub below-largest : (x : Float) → T (fits binary64 x) → T (finite x) → null ≺ value x → lt x largest ≡ true → toBits binary64 x < 0x7fef_ffff_ffff_ffff
 below-largest x h p z t =
     let b : toBits binary64 x < 0x7ff0_0000_0000_0000 = positive-pattern x h p z .1 in

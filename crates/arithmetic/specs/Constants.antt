@@ -11,6 +11,10 @@ bits b = ofBits binary64 b
 abbrev pub zeroD : Float
 zeroD = bits 0x0000000000000000
 
+-- the largest double
+abbrev pub largest : Float
+largest = bits 0x7FEFFFFFFFFFFFFF
+
 abbrev pub half : Float
 half = bits 0x3FE0000000000000
 

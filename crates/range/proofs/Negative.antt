@@ -11,7 +11,7 @@ use lib.Ieee as Ieee
 use lib.Ieee.Bits.{is-true, is-false}
 use lib.Ieee.Fits.{and-l, and-r, neg-fits, mul-fits}
 use lib.Ieee.Scale.{finite}
-use Rattle.arithmetic.specs.Constants.{zeroD}
+use Rattle.arithmetic.specs.Constants.{largest, zeroD}
 use Rattle.arithmetic.specs.Fraction.{Fraction, null, _≼_, _≺_, _⊗_, opp, Apart}
 use Rattle.arithmetic.specs.Value.{value}
 use Rattle.arithmetic.specs.Next.{nextUp, nextDown, bitsUp, bitsDown}
@@ -23,7 +23,6 @@ use Rattle.arithmetic.proofs.Rounding.{value-neg, finite-neg}
 use Rattle.arithmetic.proofs.Exact.{one-of-value}
 use Rattle.arithmetic.proofs.Tests.{not-below}
 use Rattle.range.specs.declared.basic.Range.{Range}
-use Rattle.range.specs.Positive.{largest}
 use Rattle.range.specs.Rules.{range, failed, ok, plusZero, before, after, least, greatest, outwards}
 use Rattle.range.specs.Rules as Rules
 use Rattle.range.proofs.Positive.{Factors, above-nonzero, positive-value, lower-finite, first-row, second-row, first-column, second-column, first-least, second-greatest, product-in-order, positive-product, high, no-zero, to-largest, terms-finite, zero-finite}

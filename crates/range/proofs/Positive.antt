@@ -9,7 +9,7 @@ use lib.Ieee as Ieee
 use lib.Ieee.Bits.{is-true, is-false}
 use lib.Ieee.Fits.{and-l, and-r}
 use lib.Ieee.Scale.{finite}
-use Rattle.arithmetic.specs.Constants.{zeroD}
+use Rattle.arithmetic.specs.Constants.{largest, zeroD}
 use Rattle.arithmetic.specs.Fraction.{Fraction, null, _≼_, _≺_, _⊗_, _⊕_}
 use Rattle.arithmetic.specs.Value.{value}
 use Rattle.arithmetic.proofs.Fraction.{≼-refl, ≼-trans, ≺→≼, ≺-≼-trans, ⊕-mono, ⊗-mono, ⊗-swap}
@@ -20,7 +20,7 @@ use Rattle.arithmetic.proofs.Rounding.{rounded-mono, add-is, mul-is}
 use Rattle.arithmetic.proofs.Enclosure.{under-rounded}
 use Rattle.arithmetic.proofs.Tests.{le-is}
 use Rattle.range.specs.declared.basic.Range.{Range}
-use Rattle.range.specs.Positive.{largest, positive}
+use Rattle.range.specs.Positive.{positive}
 use Rattle.range.specs.Rules.{ok, isZero, least, greatest, outwards}
 use Rattle.range.specs.Rules as Rules
 

@@ -9,8 +9,8 @@ ghost use lib.Dec.{T};
 ghost use lib.Ieee.{binary64, lt, le};
 ghost use lib.Ieee.Scale.{finite};
 ghost use Rattle.arithmetic.specs.Basic.{above};
-ghost use Rattle.arithmetic.specs.Constants.{zeroD};
-ghost use Rattle.range.specs.Positive.{largest, positive};
+ghost use Rattle.arithmetic.specs.Constants.{largest, zeroD};
+ghost use Rattle.range.specs.Positive.{positive};
 ghost use Rattle.range.specs.Rules as Rules;
 ghost use Rattle.range.specs.Rules.{rules, ranges};
 

@@ -7,7 +7,7 @@ use lib.Dec.{T}
 use lib.Ieee.{Float, nan, binary64, fits, lt, le, eq, toBits, ofBits, nanBits}
 use lib.Ieee.Bits.{is-true}
 use lib.Ieee.Scale.{finite}
-use Rattle.arithmetic.specs.Constants.{zeroD}
+use Rattle.arithmetic.specs.Constants.{largest, zeroD}
 use Rattle.arithmetic.specs.Fraction.{_≺_, null}
 use Rattle.arithmetic.specs.Value.{value}
 use Rattle.arithmetic.specs.Next.{nextUp, nextDown}
@@ -15,7 +15,6 @@ use Rattle.arithmetic.proofs.Fraction.{≺-≼-trans}
 use Rattle.arithmetic.proofs.Value.{le→≼, lt→le, le-trans, finite-between}
 use Rattle.arithmetic.proofs.Next.{bitsUp-plus, bitsDown-plus, pattern-finite, real-plus, finite-not-nan}
 use Rattle.arithmetic.proofs.Zero.{above-zero, positive-pattern, plus-pattern-zero, below-largest}
-use Rattle.range.specs.Positive.{largest}
 use Rattle.range.specs.Rules.{range, failed, plusZero, before, after}
 use Rattle.range.specs.Rules as Rules
 use Rattle.range.proofs.Positive.{to-largest}
