@@ -11,7 +11,7 @@ use case_record::case::Case;
 use case_record::case::case_of;
 use case_record::checks::refusal;
 use elementary::basic::is_finite;
-use uvtheory::eos::contributions;
+use eos::doubles::contributions;
 
 // The energies of a case whose record the checks pass, or code 9.
 fn energies_of(c: Case) -> Energies

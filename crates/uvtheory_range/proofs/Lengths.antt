@@ -5,7 +5,7 @@ use Rattle.uvtheory.specs.declared.parameters.Mixture.{Mixture}
 use Rattle.uvtheory.specs.Rows.{parameters}
 use Rattle.uvtheory.specs.Wca.HardSphere.{rm-of, dimensionless-diameter-q-wca}
 use Rattle.uvtheory.proofs.Combined.{flip}
-use Rattle.uvtheory.proofs.Lengths.{worked-from-two, symmetric-from-two, worked-from-three, symmetric-from-three}
+use Rattle.uvtheory_wca.proofs.Lengths.{worked-from-two, symmetric-from-two, worked-from-three, symmetric-from-three}
 use Rattle.uvtheory_range.specs.declared.parameters.Combined.{Combined}
 use Rattle.uvtheory_range.specs.declared.wca.hard_sphere.LengthTables.{LengthTables}
 use Rattle.uvtheory_range.specs.Rows.{matrix, Matrix}

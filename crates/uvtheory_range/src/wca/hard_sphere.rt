@@ -3,7 +3,7 @@ use crate::parameters::Combined;
 use range::basic::Range;
 use uvtheory::consts::PI;
 use uvtheory::parameters::Mixture;
-use uvtheory::wca::hard_sphere::WCA_CONSTANTS_Q;
+use uvtheory_wca::hard_sphere::WCA_CONSTANTS_Q;
 ghost use mathlib.Core.Path.{_≡_};
 ghost use Prim.Native.Nat.{_≤_, _<_};
 ghost use Rattle.range.specs.Rules.{ranges};

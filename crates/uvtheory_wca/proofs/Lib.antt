@@ -1,0 +1,2 @@
+-- Laws of the lengths.
+pub mod Lengths
