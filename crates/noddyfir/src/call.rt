@@ -56,7 +56,7 @@ fn ends_of(c: Case) -> Ends
 {
     let mixture = c.mixture;
     let state = c.state;
-    let e = uvtheory_range::eos::contributions(c.perturbation, mixture, state);
+    let e = eos::ranges::contributions(c.perturbation, mixture, state);
     let hard_sphere = e.hard_sphere;
     let reference = e.reference;
     let attractive = e.attractive;

@@ -1,2 +1,2 @@
--- Laws of the lengths.
+-- Laws for the lengths.
 pub mod Lengths

@@ -1,2 +1,2 @@
--- What the code holds.
+-- The lengths as the code holds them.
 pub mod Lengths
