@@ -11,7 +11,7 @@ use case_record::case::Case;
 use case_record::case::case_of;
 use case_record::checks::refusal;
 use elementary::basic::is_finite;
-use uvtheory::eos::contributions;
+use eos::doubles::contributions;
 
 // The energies of a case whose record the checks pass, or code 9.
 fn energies_of(c: Case) -> Energies
@@ -56,7 +56,7 @@ fn ends_of(c: Case) -> Ends
 {
     let mixture = c.mixture;
     let state = c.state;
-    let e = uvtheory_range::eos::contributions(c.perturbation, mixture, state);
+    let e = eos::ranges::contributions(c.perturbation, mixture, state);
     let hard_sphere = e.hard_sphere;
     let reference = e.reference;
     let attractive = e.attractive;

@@ -2,7 +2,6 @@
 pub mod Place
 pub mod Combined
 pub mod Arrays
-pub mod Lengths
 pub mod Loops
 pub mod Kept
 pub mod Agreement

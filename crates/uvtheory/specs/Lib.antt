@@ -13,5 +13,4 @@ pub mod Rows
 pub mod Held
 pub mod Bh
 pub mod Wca
-pub mod Lengths
 pub mod Eos

@@ -1,4 +1,3 @@
 -- Laws for the code on ranges.
 pub mod Combined
 pub mod Arrays
-pub mod Lengths

@@ -1,10 +1,7 @@
 // The second copy of the port, on ranges: the modules and functions of crate uvtheory, each proved equal to its formula in ranges.
-pub mod bh;
 pub mod contributions;
-pub mod eos;
 pub mod hard_sphere;
 pub mod one_fluid;
 pub mod packing_fraction;
 pub mod parameters;
 pub mod reference_energy;
-pub mod wca;

@@ -1,0 +1,22 @@
+// uvtheory/eos/mod.rs: the contributions of a perturbation.
+use uvtheory::contributions::Contributions;
+use uvtheory::parameters::Mixture;
+use uvtheory::parameters::State;
+ghost use Prim.Native.Nat.{_≤_};
+ghost use Rattle.arithmetic.specs.Doubles.{guarded};
+ghost use Rattle.uvtheory.specs.Rows.{parameters, state};
+ghost use Rattle.uvtheory.specs.Held.{ContributionsOf};
+ghost use Rattle.uvtheory.specs.Eos as F;
+
+pub fn contributions(perturbation: u8, m: Mixture, s: State) -> Contributions
+    requires { ⌜ m .n ≤ 8 ⌝ }
+    ensures { λ r. ⌜ ContributionsOf r (F.residual-helmholtz-energy-contributions guarded perturbation (parameters guarded m) (state guarded s)) ⌝ }
+{
+    if perturbation == 0 {
+        return uvtheory_bh::residual_helmholtz_energy_contributions(m, s);
+    }
+    if perturbation == 1 {
+        return uvtheory_wca::residual_helmholtz_energy_contributions(m, s);
+    }
+    uvtheory_b3::residual_helmholtz_energy_contributions_b3(m, s)
+}

@@ -1,0 +1,12 @@
+use mathlib.Core.Path.{refl}
+use Rattle.uvtheory.specs.Bh.AttractivePerturbation as F
+use Rattle.arithmetic.specs.Arithmetic.{powerBy}
+use Rattle.uvtheory_bh.proofs.attractive_perturbation.c13.Statement.{statement}
+use Rattle.uvtheory_bh.proofs.attractive_perturbation.c13.Tie as tie
+
+returns : tie.Need-returns
+unfolding F.c13 powerBy
+returns c = simp (c .div2 .ensures, c .before .powf2 .ensures, c .before .before .ln .ensures, c .before .before .before .div .ensures, c .before .before .before .before .powf .ensures) refl
+
+pub c13-spec : {M : Type 1} → statement M
+c13-spec = tie.close (tie.spec (λ c κs. tt) (λ c κs. tt) (λ c κs. tt) (λ c κs. tt) (λ c κs. tt) returns)

@@ -1,9 +1,0 @@
-use borrow.Author.Needs.{needs}
-use Rattle.uvtheory_range.proofs.wca.reference_perturbation.component_of.Statement.{statement}
-use Rattle.uvtheory_range.proofs.wca.reference_perturbation.component_of.Tie as tie
-
-returns : tie.Need-returns
-returns c = rw (c .before .before .before .point .ensures)
-
-pub component-of-spec : {M : Type 1} → statement M
-component-of-spec = tie.close (tie.spec (λ c. search needs) (λ c. search needs) (λ c κs. tt) (λ c. search needs) (λ c. search needs) (λ c. search needs) (λ c. search needs) (λ c. search needs) (λ c. search needs) returns)

@@ -1,0 +1,2 @@
+-- Laws for the lengths.
+pub mod Lengths

@@ -1,0 +1,2 @@
+-- The lengths as the code on ranges holds them.
+pub mod Lengths

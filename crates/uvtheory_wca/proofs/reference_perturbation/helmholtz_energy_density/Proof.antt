@@ -1,0 +1,56 @@
+use mathlib.Core.Path.{_∙_}
+use Prim.Native.Nat.{ℕ, _*_, _/_, _%_}
+use lib.Ieee.{Float, nan}
+use Rattle.arithmetic.specs.Root as Root
+use Rattle.arithmetic.specs.Doubles.{plain, guarded}
+use Rattle.uvtheory.specs.Tables.{table}
+use Rattle.uvtheory.specs.Rows.{row, matrix, parameters}
+use Rattle.uvtheory.specs.PackingFraction as P
+use Rattle.uvtheory.specs.Wca.HardSphere.{rm-of, diameter-wca, dimensionless-length-scale, dimensionless-diameter-q-wca}
+use Rattle.uvtheory.specs.Wca.ReferencePerturbation as F
+use Rattle.uvtheory.proofs.Loops.{sum-ext, row-of, column-of}
+use Rattle.uvtheory.proofs.Arrays.{matrix-at, rep-at, sigma-at, packing-fraction-of}
+use Rattle.uvtheory_wca.proofs.reference_perturbation.helmholtz_energy_density.Statement.{statement}
+use Rattle.uvtheory_wca.proofs.reference_perturbation.helmholtz_energy_density.Tie as tie
+
+returns : tie.Need-returns
+unfolding F.helmholtz-energy-density
+returns c =
+    let start = c .before .before .before .before .before .before .before .before .before .before .before .before .before .before .before .before .before .before .before .before in
+    let m = start .args .m in
+    let s = start .args .s in
+    let a = start .args .c in
+    let r = start .args .r in
+    let n = m .n in
+    let held = start .pre .0 .1 in
+    let rows = start .pre .0 .2 in
+    let p = parameters guarded m in
+    let x = row (s .molefracs) in
+    let rm : ℕ → Float = λ i. rm-of guarded (p .rep i) (p .att i) in
+    let d = diameter-wca guarded p (s .temperature) in
+    let length = dimensionless-length-scale guarded p (s .temperature) in
+    let q : ℕ → ℕ → Float = λ i j. dimensionless-diameter-q-wca guarded (guarded .div (s .temperature) (p .eps-k-ij i j)) (p .rep-ij i j) (p .att-ij i j) in
+    let eta = P.packing-fraction guarded n (row (s .«partial_density»)) d in
+    let ta = table (start .args .ta) in
+    let tb = table (start .args .tb) in
+    let pairs = sum-ext plain Root.sqrt (n * n)
+    (λ k. F.term-ij guarded ta tb x (row (r .rm)) (row (r .d)) (row (r .length)) (matrix n (start .args .l .q)) (matrix n (a .«sigma_ij»)) (matrix n (a .«rep_ij»)) eta (k / n) (k % n))
+    (λ k. F.term-ij guarded ta tb x rm d length q (p .sigma-ij) (p .rep-ij) eta (k / n) (k % n))
+    (λ k l.
+    let i = row-of n k l in
+    let j = column-of n k l in
+    rw (
+      matrix-at nan n (start .args .l .q) q (start .pre .0 .3 .q-are) k l,
+      sigma-at m a held k l,
+      rep-at m a held k l,
+      rows .rm-are (k / n) i,
+      rows .rm-are (k % n) j,
+      rows .d-are (k / n) i,
+      rows .d-are (k % n) j,
+      rows .length-are (k / n) i,
+      rows .length-are (k % n) j,
+    )) in
+    c .energy .ensures ∙ rw (c .before .pair-sum .ensures, c .before .before .before .before .before .before .before .before .before .packing-fraction .ensures, packing-fraction-of plain Root.sqrt nan n (row (s .«partial_density»)) (r .d) d (rows .d-are), pairs, start .pre .1)
+
+pub helmholtz-energy-density-spec : {M : Type 1} → statement M
+helmholtz-energy-density-spec = tie.close (tie.spec (λ c κs. c .before .before .before .before .before .before .before .before .before .before .pre .0 .0) (λ c κs. c .before .before .before .before .before .before .before .before .before .before .before .before .before .before .before .before .before .before .pre .0 .0) (λ c κs. tt) returns)

@@ -1,0 +1,2 @@
+-- The lengths as the code holds them.
+pub mod Lengths

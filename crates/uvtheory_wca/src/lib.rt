@@ -1,0 +1,47 @@
+// uvtheory/eos/wca: the contributions by Weeks, Chandler and Andersen.
+pub mod attractive_perturbation;
+pub mod hard_sphere;
+pub mod reference_perturbation;
+
+use crate::hard_sphere::WCA_CONSTANTS_ETA_A;
+use crate::hard_sphere::WCA_CONSTANTS_ETA_B;
+use crate::hard_sphere::component_lengths;
+use crate::hard_sphere::pair_lengths;
+use uvtheory::contributions::Contributions;
+use uvtheory::hard_sphere::sum;
+use uvtheory::parameters::Mixture;
+use uvtheory::parameters::State;
+use uvtheory::parameters::combine;
+ghost use Prim.Native.Nat.{_≤_};
+ghost use Rattle.arithmetic.specs.Doubles.{guarded};
+ghost use Rattle.uvtheory.specs.Rows.{parameters, state};
+ghost use Rattle.uvtheory.specs.Held.{ContributionsOf};
+ghost use Rattle.uvtheory.specs.Wca as F;
+
+// The combined values, the lengths of the components and of the pairs, and the density are worked once.
+pub fn residual_helmholtz_energy_contributions(m: Mixture, s: State) -> Contributions
+    requires { ⌜ m .n ≤ 8 ⌝ }
+    ensures { λ r. ⌜ ContributionsOf r (F.residual-helmholtz-energy-contributions guarded (parameters guarded m) (state guarded s)) ⌝ }
+{
+    let n = m.n;
+    let partial_density = s.partial_density;
+    let c = combine(m);
+    let r = component_lengths(m, s.temperature);
+    let l = pair_lengths(n, c, s.temperature);
+    let d = r.d;
+    let density = sum(n, &partial_density);
+    Contributions {
+        hard_sphere: uvtheory::hard_sphere::helmholtz_energy_density(n, &d, s, density),
+        reference: reference_perturbation::helmholtz_energy_density(
+            WCA_CONSTANTS_ETA_A,
+            WCA_CONSTANTS_ETA_B,
+            m,
+            s,
+            c,
+            r,
+            l,
+            density,
+        ),
+        attractive: attractive_perturbation::helmholtz_energy_density(m, s, c, l, &d, density),
+    }
+}
