@@ -1,4 +1,5 @@
 // uvtheory/eos/wca/attractive_perturbation.rs on ranges: the attractive perturbation by Weeks, Chandler and Andersen.
+use crate::beta_eff::coefficient_2;
 use crate::one_fluid::OneFluid;
 use crate::one_fluid::mean_cube;
 use crate::one_fluid::one_fluid_properties;
@@ -131,13 +132,6 @@ fn u_fraction_wca(rep_x: Range, reduced_density: Range) -> Range
     ensures { λ r. ⌜ r ≡ F.u-fraction-wca ranges «rep_x» «reduced_density» ⌝ }
 {
     u_polynomial(CU_WCA, Range::ONE.div(rep_x), reduced_density).tanh()
-}
-
-// The first of a row of C2, and the second over rep.
-fn coefficient_2(c: [f64; 2], rep: Range) -> Range
-    ensures { λ r. ⌜ r ≡ F.coefficient-2 ranges (Doubles.row c) rep ⌝ }
-{
-    Range::point(c[0]).add(Range::point(c[1]).div(rep))
 }
 
 // By the coefficients of the powers of beta.
