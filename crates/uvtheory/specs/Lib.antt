@@ -9,6 +9,7 @@ pub mod HardSphere
 pub mod PackingFraction
 pub mod ReferenceEnergy
 pub mod OneFluid
+pub mod BetaEff
 pub mod Rows
 pub mod Held
 pub mod Bh

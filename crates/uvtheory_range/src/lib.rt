@@ -1,4 +1,5 @@
 // The second copy of the port, on ranges: the modules and functions of crate uvtheory, each proved equal to its formula in ranges.
+pub mod beta_eff;
 pub mod contributions;
 pub mod hard_sphere;
 pub mod one_fluid;

@@ -7,6 +7,7 @@ use uvtheory::parameters::State;
 use uvtheory_bh::attractive_perturbation::C_BH;
 use uvtheory_bh::attractive_perturbation::C2;
 use uvtheory_bh::attractive_perturbation::CU_BH;
+use uvtheory_range::beta_eff::coefficient_2;
 use uvtheory_range::one_fluid::OneFluid;
 use uvtheory_range::one_fluid::mean_cube;
 use uvtheory_range::one_fluid::one_fluid_properties;
@@ -35,13 +36,6 @@ fn delta_b12u(t_x: Range, mean_field_constant_x: Range, weighted_sigma3_ij: Rang
         .mul(two)
         .mul(Range::point(PI))
         .mul(weighted_sigma3_ij)
-}
-
-// The first of a row of C2, and the second over rep.
-fn coefficient_2(c: [f64; 2], rep: Range) -> Range
-    ensures { λ r. ⌜ r ≡ F.coefficient-2 ranges (Doubles.row c) rep ⌝ }
-{
-    Range::point(c[0]).add(Range::point(c[1]).div(rep))
 }
 
 fn beta_eff(beta: Range, rep: Range, c0: Range) -> Range

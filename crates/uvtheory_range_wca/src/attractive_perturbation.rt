@@ -6,6 +6,7 @@ use range::basic::Range;
 use uvtheory::consts::PI;
 use uvtheory::parameters::Mixture;
 use uvtheory::parameters::State;
+use uvtheory_range::beta_eff::coefficient_2;
 use uvtheory_range::one_fluid::OneFluid;
 use uvtheory_range::one_fluid::mean_cube;
 use uvtheory_range::one_fluid::one_fluid_properties;
@@ -131,13 +132,6 @@ fn u_fraction_wca(rep_x: Range, reduced_density: Range) -> Range
     ensures { λ r. ⌜ r ≡ F.u-fraction-wca ranges «rep_x» «reduced_density» ⌝ }
 {
     u_polynomial(CU_WCA, Range::ONE.div(rep_x), reduced_density).tanh()
-}
-
-// The first of a row of C2, and the second over rep.
-fn coefficient_2(c: [f64; 2], rep: Range) -> Range
-    ensures { λ r. ⌜ r ≡ F.coefficient-2 ranges (Doubles.row c) rep ⌝ }
-{
-    Range::point(c[0]).add(Range::point(c[1]).div(rep))
 }
 
 // By the coefficients of the powers of beta.

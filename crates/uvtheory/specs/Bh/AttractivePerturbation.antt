@@ -8,6 +8,7 @@ use Rattle.uvtheory.specs.Tables.{C-BH, CU-BH, C2-BH}
 use Rattle.uvtheory.specs.Parameters.{UVTheoryPars, State, mie-prefactor, mean-field-constant}
 use Rattle.uvtheory.specs.Bh.HardSphere.{diameter-bh}
 use Rattle.uvtheory.specs.OneFluid.{OneFluid, one-fluid-properties, virial-sum, mean-cube}
+use Rattle.uvtheory.specs.BetaEff.{coefficient-2}
 
 module _ (A : Arithmetic) where
   open Arithmetic A using (Value, constant, add as _+_, sub as _-_, mul as _*_, div as _/_, neg as -_, powi as _^_, sqrt, ln, exp, powf, tanh, sum)
@@ -19,13 +20,9 @@ module _ (A : Arithmetic) where
   unfoldable pub delta-b12u : Value → Value → Value → Value
   delta-b12u t-x mean-field-constant-x weighted-sigma3-ij = - mean-field-constant-x / t-x * constant two * constant PI * weighted-sigma3-ij
 
-  -- a coefficient of `beta_eff`, by its row c of `C2`
-  abbrev pub coefficient-2 : (ℕ → Float) → Value → Value
-  coefficient-2 c rep = constant (c 0) + constant (c 1) / rep
-
   unfoldable pub beta-eff : Value → Value → Value → Value
   beta-eff beta rep c0 =
-      let c : ℕ → Value = λ k. coefficient-2 (C2-BH k) rep in
+      let c : ℕ → Value = λ k. coefficient-2 A (C2-BH k) rep in
       beta * (- recip A (beta * (beta * c 1 + beta ^ 3 * c 2 + c 0) + constant one) * c0 + constant one)
 
   -- by the mean-field constants at rs = 1 and at the cutoff, a-rs and alpha
