@@ -10,7 +10,7 @@ use lib.Arith.{digits-div, digits-mod, lt→nleb, le→nltb, lt-of-le-ne}
 use lib.IntN.{pos}
 use lib.Pow.{pow-pos}
 use lib.Ieee.{Float, nan, inf, fin, Format, binary32, binary64, prec, low, odd, le, fits, hid, ones, top, ofFields, ofBits, toBits, isNan, nanBits}
-use lib.Ieee.Bits.{is-true, is-false, ofBits-toBits, toBits-lt, ofBits-fits, nanBits-above}
+use lib.Ieee.Bits.{is-true, is-false, ofBits-toBits, toBits-lt, ofBits-fits, nanBits-is, nanBits-above}
 use lib.Ieee.Fits.{eq→eqb}
 use lib.Ieee.Exact.{HasValue, odd-sign}
 use lib.Ieee.Scale.{finite}
@@ -141,6 +141,13 @@ fields-below f s c h =
 pub pattern-finite : (f : Format) (c : ℕ) → c < ones f * hid f → T (finite (ofBits f c))
 pattern-finite f c h = rw (read-plus f c (omega (arith, h))) (fields-below f false c h)
 
+-- up to the infinity's, it is none of a NaN
+pub real-plus : (f : Format) (c : ℕ) → c < top f → c ≤ ones f * hid f → T (not (nanBits f c))
+real-plus f c h k = subst (λ (b : Bool). T (not b)) (sym (nanBits-above f c ∙ ap (ltb (ones f * hid f)) (mod-eq-of-lt h))) (le→nltb (ones f * hid f) c k)
+
+real-minus : (f : Format) (c : ℕ) → c < top f → c ≤ ones f * hid f → T (not (nanBits f (top f + c)))
+real-minus f c h k = subst (λ (b : Bool). T (not b)) (sym (nanBits-above f (top f + c) ∙ ap (ltb (ones f * hid f)) (add-mod-left (top f) c ∙ mod-eq-of-lt h))) (le→nltb (ones f * hid f) c k)
+
 -- ---- the floats in their order: the place of the two zeros is `top f`, those of the patterns with the sign clear follow, and those with the sign set precede it
 -- the value at the place n
 abbrev at : Format → ℕ → Fraction
@@ -172,10 +179,11 @@ at-mono : (f : Format) (n m : ℕ) → n ≤ m → at f n ≼ at f m
 at-mono f n zero h = let e : n ≡ 0 = omega arith in rw e (≼-refl (at f 0))
 at-mono f n (suc m) h = elim (eq-or-lt-of-le h) [ inl e ↦ rw e (≼-refl (at f (suc m))) | inr l ↦ ≼-trans (at-mono f n m (le-of-suc-le-suc l)) (≺→≼ (at-grows f m)) ]
 
--- x has the place n, and is finite where that is nearer to the zeros than an infinity's
+-- x has the place n, and is finite where that is nearer to the zeros than an infinity's, and no NaN where it is as near
 record Place (f : Format) (n : ℕ) (x : Float) : Type 0 where
   inner : T (finite x) → (top f < n + ones f * hid f) × (n < top f + ones f * hid f)
   number : top f < n + ones f * hid f → n < top f + ones f * hid f → T (finite x)
+  real : top f ≤ n + ones f * hid f → n ≤ top f + ones f * hid f → T (not (isNan x))
   is : T (finite x) → (value x ≼ at f n) × (at f n ≼ value x)
 
 pub neqb→ne : (a b : ℕ) → T (not (eqb a b)) → a ≢ b
@@ -197,6 +205,7 @@ module _ (f : Format) where
       record {
         inner = λ p. let k = below-inf f false c h (rw r at p) in (omega (arith, e, k), omega (arith, e, k));
         number = λ l u. rw r (fields-below f false c (omega (arith, e, u)));
+        real = λ l u. rw (← nanBits-is f c) (real-plus f c h (omega (arith, e, u)));
         is = λ p. rw (d, d', zero-size f) (read-value false c (ofBits f c) r p);
       }
 
@@ -208,6 +217,7 @@ module _ (f : Format) where
       record {
         inner = λ p. let k = below-inf f true c h (rw r at p) in (omega (arith, e, k), omega (arith, e, k));
         number = λ l u. rw r (fields-below f true c (omega (arith, e, l)));
+        real = λ l u. rw (← nanBits-is f b, i) (real-minus f c h (omega (arith, e, l)));
         is = λ p. rw (d, d', zero-size f) (read-value true c (ofBits f b) r p);
       }
 
@@ -323,71 +333,20 @@ nextDown-under f (inf true) h n k = absurd (subst (λ (y : Float). T (finite y))
 nextDown-under f (fin s m e) h n k = ≺→not-le (nextDown f (fin s m e)) (fin s m e) k tt (nextDown-lt f (fin s m e) h tt k)
 
 -- ---- a program may read the next pattern: it is none of a NaN
-pub real-plus : (f : Format) (c : ℕ) → c < top f → c ≤ ones f * hid f → T (not (nanBits f c))
-real-plus f c h k = subst (λ (b : Bool). T (not b)) (sym (nanBits-above f c ∙ ap (ltb (ones f * hid f)) (mod-eq-of-lt h))) (le→nltb (ones f * hid f) c k)
-
-real-minus : (f : Format) (c : ℕ) → c < top f → c ≤ ones f * hid f → T (not (nanBits f (top f + c)))
-real-minus f c h k = subst (λ (b : Bool). T (not b)) (sym (nanBits-above f (top f + c) ∙ ap (ltb (ones f * hid f)) (add-mod-left (top f) c ∙ mod-eq-of-lt h))) (le→nltb (ones f * hid f) c k)
-
-module _ (f : Format) (b : ℕ) (B : b < 2 * top f) (p : T (finite (ofBits f b))) where
-  up-real : T (not (nanBits f (bitsUp f b)))
-  unfolding bitsUp
-  up-real = go (ltb b (top f)) (eqb b (top f)) (ltb→lt b (top f)) (nltb→le b (top f)) (neqb→ne b (top f))
-    where
-      plus : b < top f → T (not (nanBits f (suc b)))
-      plus h =
-          let k : suc b ≤ ones f * hid f = below-inf f false b h (rw (read-plus f b h) at p) in
-          real-plus f (suc b) (omega (arith, k, hid-pos f)) k
-
-      minus : (c : ℕ) → b ≡ top f + suc c → T (not (nanBits f (b - 1)))
-      minus c e =
-          let e' : b - 1 ≡ top f + c = omega (arith, e) in
-          let h : suc c < top f = omega (arith, e, B) in
-          let k : suc (suc c) ≤ ones f * hid f = below-inf f true (suc c) h (rw (ap (ofBits f) e ∙ read-minus f (suc c) h) at p) in
-          rw e' (real-minus f c (omega (arith, h)) (omega (arith, k)))
-
-      go : (t u : Bool) → (T t → b < top f) → (T (not t) → top f ≤ b) → (T (not u) → b ≢ top f) → T (not (nanBits f (cond t (suc b) (cond u 1 (b - 1)))))
-      go true u h i l = plus (h tt)
-      go false true h i l = real-plus f 1 (one-lt-top f) (omega (arith, hid-pos f))
-      go false false h i l = minus (b - suc (top f)) (omega (arith, i tt, l tt))
-
-  down-real : T (not (nanBits f (bitsDown f b)))
-  unfolding bitsDown
-  down-real = go (ltb b (top f)) (eqb b 0) (ltb→lt b (top f)) (nltb→le b (top f)) (neqb→ne b 0)
-    where
-      plus : (c : ℕ) → b ≡ suc c → b < top f → T (not (nanBits f (b - 1)))
-      plus c e h =
-          let k : suc b ≤ ones f * hid f = below-inf f false b h (rw (read-plus f b h) at p) in
-          real-plus f (b - 1) (omega (arith, h)) (omega (arith, k))
-
-      minus : (c : ℕ) → b ≡ top f + c → T (not (nanBits f (suc b)))
-      minus c e =
-          let e' : suc b ≡ top f + suc c = omega (arith, e) in
-          let h : c < top f = omega (arith, e, B) in
-          let k : suc c ≤ ones f * hid f = below-inf f true c h (rw (ap (ofBits f) e ∙ read-minus f c h) at p) in
-          rw e' (real-minus f (suc c) (omega (arith, k, hid-pos f)) k)
-
-      zeroth : T (not (nanBits f (suc (top f))))
-      zeroth =
-          let e' : suc (top f) ≡ top f + 1 = omega arith in
-          rw e' (real-minus f 1 (one-lt-top f) (omega (arith, hid-pos f)))
-
-      go : (t u : Bool) → (T t → b < top f) → (T (not t) → top f ≤ b) → (T (not u) → b ≢ 0) → T (not (nanBits f (cond t (cond u (suc (top f)) (b - 1)) (suc b))))
-      go true true h i l = zeroth
-      go true false h i l = plus (b - 1) (omega (arith, l tt)) (h tt)
-      go false u h i l = minus (b - top f) (omega (arith, i tt))
-
 pub finite-not-nan : (x : Float) → T (finite x) → T (not (isNan x))
 unfolding isNan
 finite-not-nan nan p = p
 finite-not-nan (inf s) p = absurd p
 finite-not-nan (fin s m e) p = tt
 
-pub bitsUp-real : (f : Format) (x : Float) → T (fits f x) → T (finite x) → T (not (nanBits f (bitsUp f (toBits f x))))
-bitsUp-real f x h p = up-real f (toBits f x) (toBits-lt f x h) (subst (λ (y : Float). T (finite y)) (sym (ofBits-toBits f x h)) p)
+module _ (f : Format) (x : Float) (h : T (fits f x)) (p : T (finite x)) where
+  pub bitsUp-real : T (not (nanBits f (bitsUp f (toBits f x))))
+  unfolding nextUp
+  bitsUp-real = let a = around f x h p in rw (nanBits-is f (bitsUp f (toBits f x))) (a .above .real (omega (arith, a .here .inner p)) (omega (arith, a .here .inner p)))
 
-pub bitsDown-real : (f : Format) (x : Float) → T (fits f x) → T (finite x) → T (not (nanBits f (bitsDown f (toBits f x))))
-bitsDown-real f x h p = down-real f (toBits f x) (toBits-lt f x h) (subst (λ (y : Float). T (finite y)) (sym (ofBits-toBits f x h)) p)
+  pub bitsDown-real : T (not (nanBits f (bitsDown f (toBits f x))))
+  unfolding nextDown
+  bitsDown-real = let a = around f x h p in rw (nanBits-is f (bitsDown f (toBits f x))) (a .below .real (omega (arith, a .here .inner p)) (omega (arith, a .here .inner p)))
 
 -- ---- the next pattern as a program works it out: the sign is a number, and zeros are left aside
 sign-set : (f : Format) (b : ℕ) → top f ≤ b → b < 2 * top f → b / top f ≡ 1
