@@ -48,7 +48,7 @@ next-field h (suc k) t e = rw pow-succ' (omega (arith, mul-lt-mul-of-pos-right (
     less : (h t : ℕ) → suc t ≡ h → h + t < 2 * h
     less h t e = omega arith
 
-pub grows : (h c : ℕ) → 0 < h → steps h (c / h) (c % h) < steps h (suc c / h) (suc c % h)
+grows : (h c : ℕ) → 0 < h → steps h (c / h) (c % h) < steps h (suc c / h) (suc c % h)
 grows h c H = go (eq-or-lt-of-le (mod-lt c H))
   where
     x : ℕ
@@ -105,7 +105,7 @@ fields-not-ones f s (suc x) t h e = go (eqb (suc x) (ones f)) (eqb t 0) (eq→eq
     go true false u h = h
     go false c u h = u
 
-pub hid-pos : (f : Format) → 0 < hid f
+hid-pos : (f : Format) → 0 < hid f
 hid-pos f = pow-pos (prec f - 1)
 
 -- so the next pattern is an infinity's at most, and has the same sign
@@ -115,7 +115,7 @@ below-inf f s c h p =
     let x-lt : c / hid f < ones f = lt-of-le-ne (le-of-suc-le-suc x-le) (fields-not-ones f s (c / hid f) (c % hid f) p) in
     div-lt-iff-lt-mul (hid-pos f) .0 x-lt
 
-pub room : (f : Format) (s : Bool) (c : ℕ) → c < top f → T (finite (ofFields f s (c / hid f) (c % hid f))) → suc c < top f
+room : (f : Format) (s : Bool) (c : ℕ) → c < top f → T (finite (ofFields f s (c / hid f) (c % hid f))) → suc c < top f
 room f s c h p = omega (arith, below-inf f s c h p, hid-pos f)
 
 -- and a pattern below the infinity's is a finite value's
@@ -133,7 +133,7 @@ fields-finite f s (suc x) t n = go (eqb (suc x) (ones f)) (eqb t 0) (eqb→eq (s
     go true c e = absurd (n (e tt))
     go false c e = odd-finite (prec f) s (hid f + t) x (low f)
 
-pub fields-below : (f : Format) (s : Bool) (c : ℕ) → c < ones f * hid f → T (finite (ofFields f s (c / hid f) (c % hid f)))
+fields-below : (f : Format) (s : Bool) (c : ℕ) → c < ones f * hid f → T (finite (ofFields f s (c / hid f) (c % hid f)))
 fields-below f s c h =
     let k : c / hid f < ones f = div-lt-iff-lt-mul (hid-pos f) .1 h in
     fields-finite f s (c / hid f) (c % hid f) (λ e. omega (arith, k, e))
@@ -186,10 +186,10 @@ record Place (f : Format) (n : ℕ) (x : Float) : Type 0 where
   real : top f ≤ n + ones f * hid f → n ≤ top f + ones f * hid f → T (not (isNan x))
   is : T (finite x) → (value x ≼ at f n) × (at f n ≼ value x)
 
-pub neqb→ne : (a b : ℕ) → T (not (eqb a b)) → a ≢ b
+neqb→ne : (a b : ℕ) → T (not (eqb a b)) → a ≢ b
 neqb→ne a b n e = T-not (eqb a b) n (eq→eqb e)
 
-pub one-lt-top : (f : Format) → 1 < top f
+one-lt-top : (f : Format) → 1 < top f
 one-lt-top f = omega (arith, hid-pos f)
 
 module _ (f : Format) where

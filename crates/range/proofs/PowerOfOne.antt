@@ -14,7 +14,7 @@ use Rattle.arithmetic.specs.Basic.{below, above, floor}
 use Rattle.arithmetic.specs.Cases.{exponentOf, floorOf}
 use Rattle.arithmetic.specs.Recipes as R
 use Rattle.arithmetic.specs.Constants.{bits, zeroD, half, one, two, E, H, G, sevenHundred, minusSevenHundred, factorialReciprocals}
-use Rattle.arithmetic.specs.Fraction.{Fraction, _≼_, _≺_, _≺?_, null, _⊗_}
+use Rattle.arithmetic.specs.Fraction.{_≼_, _≺_, _⊗_}
 use Rattle.arithmetic.specs.Value.{value}
 use Rattle.arithmetic.specs.Next.{nextUp, nextDown}
 use Rattle.arithmetic.proofs.Fraction.{≼-refl, ≼-trans, ≺-≼-trans, ≼-≺-trans, ≺-not-≼, ≺→≼, ≺?-no, was-no}
@@ -27,7 +27,7 @@ use Rattle.range.specs.Moderate.{thousand, minusThousand, moderate}
 use Rattle.range.specs.Rules.{range, ok, isZero, plusZero, before, after, least, greatest, ends, outwards, point, rules, ranges}
 use Rattle.range.specs.Rules as Rules
 use Rattle.range.specs.Enclosed.{Ok}
-use Rattle.range.proofs.Corners.{In, OfDoubles, AtEnds, lowest, highest, lower-finite, upper-finite, before-fits, after-fits, product-ends, product-within, corners-in-order}
+use Rattle.range.proofs.Corners.{In, OfDoubles, lowest, highest, lower-finite, upper-finite, before-fits, after-fits, product-ends, product-within, corners-in-order}
 use Rattle.range.proofs.Positive.{above-nonzero, positive-value}
 use Rattle.range.proofs.Contained.{zero-in, zero-number, plus-zero-fits, plus-zero-value}
 use Rattle.range.proofs.PowersOfTwo.{equal→≈}
@@ -61,11 +61,15 @@ record Inside (D r : Range) : Type 0 where
   high : value (r .upper) ≼ value (D .upper)
   some : isZero r ≡ false
 
-lower-in : {D r : Range} → Inside D r → In D (value (r .lower))
-lower-in h = record { low = h .low; high = ≼-trans (h .order) (h .high) }
+-- a double inside a range
+abbrev InsideOf : Range → Float → Type 0
+InsideOf D x = T (finite x) × In D (value x)
 
-upper-in : {D r : Range} → Inside D r → In D (value (r .upper))
-upper-in h = record { low = ≼-trans (h .low) (h .order); high = h .high }
+lower-in : {D r : Range} → Inside D r → InsideOf D (r .lower)
+lower-in {D} {r} h = (lower-finite r (h .has), record { low = h .low; high = ≼-trans (h .order) (h .high) })
+
+upper-in : {D r : Range} → Inside D r → InsideOf D (r .upper)
+upper-in {D} {r} h = (upper-finite r (h .has), record { low = ≼-trans (h .low) (h .order); high = h .high })
 
 inside : (D r : Range) → Ok D → T (le (D .lower) (r .lower)) → T (le (r .lower) (r .upper)) → T (le (r .upper) (D .upper)) → isZero r ≡ false → Inside D r
 inside D r K l o h z =
@@ -144,8 +148,8 @@ module _ (A B D : Range) (t : T (all (bounds A B D))) where
       (ends-inside D (nextDown binary64 l) (nextUp binary64 u) (nextDown-fits binary64 l) (nextUp-fits binary64 u) dn un down
       (≺-≼-trans (nextDown-lt binary64 l fl L dn) (≼-trans (le→≼ l u L U o) (≺→≼ (nextUp-lt binary64 u fu U un)))) up)
 
-  product-between : (x y : Float) → T (finite x) → T (finite y) → In A (value x) → In B (value y) → Between (mul binary64 x y)
-  product-between x y X Y v w =
+  product-between : (x y : Float) → InsideOf A x → InsideOf B y → Between (mul binary64 x y)
+  product-between x y (X, v) (Y, w) =
       let (a, (b, (c, d))) = K in
       let L = lower-finite C c in
       let U = upper-finite C c in
@@ -162,14 +166,10 @@ module _ (A B D : Range) (t : T (all (bounds A B D))) where
   product-inside : {r s : Range} → Inside A r → Inside B s → Inside D (Rules.mul r s)
   unfolding Rules.mul Rules.four
   product-inside {r} {s} h k =
-      let rl = lower-finite r (h .has) in
-      let ru = upper-finite r (h .has) in
-      let sl = lower-finite s (k .has) in
-      let su = upper-finite s (k .has) in
-      let ll = product-between (r .lower) (s .lower) rl sl (lower-in h) (lower-in k) in
-      let lu = product-between (r .lower) (s .upper) rl su (lower-in h) (upper-in k) in
-      let ul = product-between (r .upper) (s .lower) ru sl (upper-in h) (lower-in k) in
-      let uu = product-between (r .upper) (s .upper) ru su (upper-in h) (upper-in k) in
+      let ll = product-between (r .lower) (s .lower) (lower-in h) (lower-in k) in
+      let lu = product-between (r .lower) (s .upper) (lower-in h) (upper-in k) in
+      let ul = product-between (r .upper) (s .lower) (upper-in h) (lower-in k) in
+      let uu = product-between (r .upper) (s .upper) (upper-in h) (upper-in k) in
       rw (is-true (ok r) (h .has), is-true (ok s) (k .has), h .some, k .some)
       (outwards-inside (lowest (mul binary64) r s) (highest (mul binary64) r s) (least-has (least-has ll lu) (least-has ul uu)) (greatest-has (greatest-has ll lu) (greatest-has ul uu))
       (corners-in-order (mul binary64) _⊗_ (mul-fits binary64) r s (product-ends r s (h .has) (k .has))))
@@ -186,8 +186,8 @@ module _ (D : Range) (c : Float) (t : T (all (absorbs D c))) where
   abbrev S : All (absorbs D c)
   S = passed (absorbs D c) t
 
-  absorbed : (x : Float) → T (finite x) → In D (value x) → add binary64 x c ≡ c
-  absorbed x X w =
+  absorbed : (x : Float) → InsideOf D x → add binary64 x c ≡ c
+  absorbed x (X, w) =
       let (d, (f, (p, (o, (l, h))))) = S in
       let y = add binary64 x c in
       let a : T (le c y) = le-trans c (add binary64 (D .lower) c) y l (add-mono (D .lower) x c (lower-finite D d) X p (w .low)) in
@@ -207,7 +207,7 @@ module _ (D : Range) (c : Float) (t : T (all (absorbs D c))) where
       let F = is-true (finite c) (S .1 .1 .0) in
       ap (Rules.add r) point-is
       ∙ sum-is r (range c c) (is-true (ok r) (h .has)) (ap₂ _&&_ F F) (h .some) (ap₂ _&&_ some-c some-c)
-      ∙ ap₂ outwards (absorbed (r .lower) (lower-finite r (h .has)) (lower-in h)) (absorbed (r .upper) (upper-finite r (h .has)) (upper-in h))
+      ∙ ap₂ outwards (absorbed (r .lower) (lower-in h)) (absorbed (r .upper) (upper-in h))
 
 -- ---- Horner's rule in v, tiny, over such coefficients from 0 to 2
 abbrev twos : Range
@@ -297,11 +297,11 @@ limits = (was-no _ _ refl, was-no _ _ refl)
 module _ (v : Range) (I : Inside tiny v) where
   not-under : (x y : Range) → Rules.test (below minusSevenHundred) v x y ≡ y
   unfolding Rules.test
-  not-under x y = rw (is-true (ok v) (I .has), ≺?-no (≼-trans (limits .0) (lower-in I .low)), ≺?-no (≼-trans (limits .0) (upper-in I .low)))
+  not-under x y = rw (is-true (ok v) (I .has), ≺?-no (≼-trans (limits .0) (lower-in I .1 .low)), ≺?-no (≼-trans (limits .0) (upper-in I .1 .low)))
 
   not-over : (x y : Range) → Rules.test (above sevenHundred) v x y ≡ y
   unfolding Rules.test
-  not-over x y = rw (is-true (ok v) (I .has), ≺?-no (≼-trans (lower-in I .high) (limits .1)), ≺?-no (≼-trans (upper-in I .high) (limits .1)))
+  not-over x y = rw (is-true (ok v) (I .has), ≺?-no (≼-trans (lower-in I .1 .high) (limits .1)), ≺?-no (≼-trans (upper-in I .1 .high) (limits .1)))
 
   place-is : Rules.add (Rules.mul v (point E)) (point half) ≡ outwards half half
   place-is = sum-absorbed small half half-absorbs (product-inside tiny twos small place-bounds I (is-inside twos (point E) E-inside))
@@ -323,14 +323,10 @@ above-zero-case : (x y : Range) → Rules.test (above zeroD) (range one one) x y
 unfolding Rules.test ofBits
 above-zero-case x y = refl
 
-thousands-ok : Ok thousands
-unfolding ofBits neg
-thousands-ok = tt
-
 pub power-of-one : (b : Range) → T (le minusThousand (b .lower)) → T (le (b .lower) (b .upper)) → T (le (b .upper) thousand) → eq (b .lower) zeroD ≡ false → ranges .powf (range one one) b ≡ aroundOne
 unfolding R.powf
 power-of-one b l o h z =
-    let I = inside thousands b thousands-ok l o h (ap (λ (i : Bool). i && eq (b .upper) zeroD) z) in
+    let I = inside thousands b (passed (bounds thousands lnOne tiny) power-bounds .0) l o h (ap (λ (i : Bool). i && eq (b .upper) zeroD) z) in
     above-zero-case _ _ ∙ rw ln-one (exp-tiny (Rules.mul b lnOne) (product-inside thousands lnOne tiny power-bounds I (is-inside lnOne lnOne ln-one-inside)))
 
 -- a double that equals 1 is 1
