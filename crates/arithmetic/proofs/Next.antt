@@ -1,4 +1,4 @@
--- The next float up is above, the next float down is below, and a program may read their patterns.
+-- The next float up is above, the next float down is below, no float lies between, and a program may read their patterns.
 use mathlib.Core.Path.{_≡_, refl, sym, ap, ap₂, subst, _∙_}
 use mathlib.Core.Logic.{_≢_, _⊎_, inl, inr}
 use Prim.Native.Nat.{ℕ, zero, suc, _+_, _-_, _*_, _/_, _%_, _^_, _≤_, _<_}
