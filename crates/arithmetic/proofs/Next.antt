@@ -1,8 +1,8 @@
--- The next float up is above, the next float down is below, and a program may read their patterns.
+-- The next float up is above, the next float down is below, no float lies between, and a program may read their patterns.
 use mathlib.Core.Path.{_≡_, refl, sym, ap, ap₂, subst, _∙_}
 use mathlib.Core.Logic.{_≢_, _⊎_, inl, inr}
 use Prim.Native.Nat.{ℕ, zero, suc, _+_, _-_, _*_, _/_, _%_, _^_, _≤_, _<_}
-use native.Mathlib.Nat.{eq-or-lt-of-le, le-of-suc-le-suc, mul-lt-mul-of-pos-right, add-mod-left, mod-eq-of-lt, mul-add-mod-self-left, div-add-mod', mod-lt, pow-succ', le-add-right, div-lt-iff-lt-mul, div-eq-of-lt, div-eq-of-lt-le}
+use native.Mathlib.Nat.{lt-of-not-le, eq-or-lt-of-le, le-of-suc-le-suc, mul-lt-mul-of-pos-right, add-mod-left, mod-eq-of-lt, mul-add-mod-self-left, div-add-mod', mod-lt, pow-succ', le-add-right, div-lt-iff-lt-mul, div-eq-of-lt, div-eq-of-lt-le}
 use native.Mathlib.Omega.{arith}
 use mathlib.Core.Bool.{Bool, true, false, not, cond}
 use lib.Dec.{T, leb, ltb, eqb, ltb→lt, nltb→le, eqb→eq, le→leb, T-not, not-T}
@@ -10,14 +10,14 @@ use lib.Arith.{digits-div, digits-mod, lt→nleb, le→nltb, lt-of-le-ne}
 use lib.IntN.{pos}
 use lib.Pow.{pow-pos}
 use lib.Ieee.{Float, nan, inf, fin, Format, binary32, binary64, prec, low, odd, le, fits, hid, ones, top, ofFields, ofBits, toBits, isNan, nanBits}
-use lib.Ieee.Bits.{is-true, is-false, ofBits-toBits, toBits-lt, ofBits-fits, nanBits-above}
+use lib.Ieee.Bits.{is-true, is-false, ofBits-toBits, toBits-lt, ofBits-fits, nanBits-is, nanBits-above}
 use lib.Ieee.Fits.{eq→eqb}
 use lib.Ieee.Exact.{HasValue, odd-sign}
 use lib.Ieee.Scale.{finite}
-use Rattle.arithmetic.specs.Fraction.{_≺_}
+use Rattle.arithmetic.specs.Fraction.{Fraction, _≼_, _≺_}
 use Rattle.arithmetic.specs.Value.{signed, value}
 use Rattle.arithmetic.specs.Next.{bitsUp, bitsDown, nextUp, nextDown}
-use Rattle.arithmetic.proofs.Fraction.{≺-not-≼, ≼-≺-trans, ≺-≼-trans}
+use Rattle.arithmetic.proofs.Fraction.{≼-refl, ≼-trans, ≺→≼, ≺-not-≼, ≼-≺-trans, ≺-≼-trans}
 use Rattle.arithmetic.proofs.Value.{value-is, le→≼}
 
 pub nextUp-fits : (f : Format) (x : Float) → T (fits f (nextUp f x))
@@ -48,7 +48,7 @@ next-field h (suc k) t e = rw pow-succ' (omega (arith, mul-lt-mul-of-pos-right (
     less : (h t : ℕ) → suc t ≡ h → h + t < 2 * h
     less h t e = omega arith
 
-pub grows : (h c : ℕ) → 0 < h → steps h (c / h) (c % h) < steps h (suc c / h) (suc c % h)
+grows : (h c : ℕ) → 0 < h → steps h (c / h) (c % h) < steps h (suc c / h) (suc c % h)
 grows h c H = go (eq-or-lt-of-le (mod-lt c H))
   where
     x : ℕ
@@ -105,7 +105,7 @@ fields-not-ones f s (suc x) t h e = go (eqb (suc x) (ones f)) (eqb t 0) (eq→eq
     go true false u h = h
     go false c u h = u
 
-pub hid-pos : (f : Format) → 0 < hid f
+hid-pos : (f : Format) → 0 < hid f
 hid-pos f = pow-pos (prec f - 1)
 
 -- so the next pattern is an infinity's at most, and has the same sign
@@ -115,7 +115,7 @@ below-inf f s c h p =
     let x-lt : c / hid f < ones f = lt-of-le-ne (le-of-suc-le-suc x-le) (fields-not-ones f s (c / hid f) (c % hid f) p) in
     div-lt-iff-lt-mul (hid-pos f) .0 x-lt
 
-pub room : (f : Format) (s : Bool) (c : ℕ) → c < top f → T (finite (ofFields f s (c / hid f) (c % hid f))) → suc c < top f
+room : (f : Format) (s : Bool) (c : ℕ) → c < top f → T (finite (ofFields f s (c / hid f) (c % hid f))) → suc c < top f
 room f s c h p = omega (arith, below-inf f s c h p, hid-pos f)
 
 -- and a pattern below the infinity's is a finite value's
@@ -133,108 +133,166 @@ fields-finite f s (suc x) t n = go (eqb (suc x) (ones f)) (eqb t 0) (eqb→eq (s
     go true c e = absurd (n (e tt))
     go false c e = odd-finite (prec f) s (hid f + t) x (low f)
 
-pub pattern-finite : (f : Format) (c : ℕ) → c < ones f * hid f → T (finite (ofBits f c))
-pattern-finite f c h =
+fields-below : (f : Format) (s : Bool) (c : ℕ) → c < ones f * hid f → T (finite (ofFields f s (c / hid f) (c % hid f)))
+fields-below f s c h =
     let k : c / hid f < ones f = div-lt-iff-lt-mul (hid-pos f) .1 h in
-    rw (read-plus f c (omega (arith, h))) (fields-finite f false (c / hid f) (c % hid f) (λ e. omega (arith, k, e)))
+    fields-finite f s (c / hid f) (c % hid f) (λ e. omega (arith, k, e))
 
--- ---- two values by their magnitudes
-apart : (f : Format) (s t : Bool) (c d : ℕ) (x y : Float) → x ≡ ofFields f s (c / hid f) (c % hid f) → y ≡ ofFields f t (d / hid f) (d % hid f) → T (finite x) → T (finite y)
-    → signed s (size-of f c) (2 ^ low f) (pow-pos (low f)) ≺ signed t (size-of f d) (2 ^ low f) (pow-pos (low f)) → value x ≺ value y
-apart f s t c d x y p q h k l =
-    let v : HasValue x s (size-of f c) (2 ^ low f) = rw p (fields-value f s (c / hid f) (c % hid f) (rw p at h)) in
-    let w : HasValue y t (size-of f d) (2 ^ low f) = rw q (fields-value f t (d / hid f) (d % hid f) (rw q at k)) in
-    ≼-≺-trans (value-is x s (size-of f c) (2 ^ low f) (pow-pos (low f)) v .0) (≺-≼-trans l (value-is y t (size-of f d) (2 ^ low f) (pow-pos (low f)) w .1))
+pub pattern-finite : (f : Format) (c : ℕ) → c < ones f * hid f → T (finite (ofBits f c))
+pattern-finite f c h = rw (read-plus f c (omega (arith, h))) (fields-below f false c h)
 
-times : (a b l : ℕ) → 0 < l → a < b → a * l < b * l
-times a b l L h = mul-lt-mul-of-pos-right h L
+-- up to the infinity's, it is none of a NaN
+pub real-plus : (f : Format) (c : ℕ) → c < top f → c ≤ ones f * hid f → T (not (nanBits f c))
+real-plus f c h k = subst (λ (b : Bool). T (not b)) (sym (nanBits-above f c ∙ ap (ltb (ones f * hid f)) (mod-eq-of-lt h))) (le→nltb (ones f * hid f) c k)
 
-plus-plus : (f : Format) (c : ℕ) → signed false (size-of f c) (2 ^ low f) (pow-pos (low f)) ≺ signed false (size-of f (suc c)) (2 ^ low f) (pow-pos (low f))
-plus-plus f c = omega (arith, times (size-of f c) (size-of f (suc c)) (2 ^ low f) (pow-pos (low f)) (grows (hid f) c (hid-pos f)))
+real-minus : (f : Format) (c : ℕ) → c < top f → c ≤ ones f * hid f → T (not (nanBits f (top f + c)))
+real-minus f c h k = subst (λ (b : Bool). T (not b)) (sym (nanBits-above f (top f + c) ∙ ap (ltb (ones f * hid f)) (add-mod-left (top f) c ∙ mod-eq-of-lt h))) (le→nltb (ones f * hid f) c k)
 
-minus-minus : (f : Format) (c : ℕ) → signed true (size-of f (suc c)) (2 ^ low f) (pow-pos (low f)) ≺ signed true (size-of f c) (2 ^ low f) (pow-pos (low f))
-minus-minus f c = omega (arith, times (size-of f c) (size-of f (suc c)) (2 ^ low f) (pow-pos (low f)) (grows (hid f) c (hid-pos f)))
+-- ---- the floats in their order: the place of the two zeros is `top f`, those of the patterns with the sign clear follow, and those with the sign set precede it
+-- the value at the place n
+abbrev at : Format → ℕ → Fraction
+at f n = record { plus = size-of f (n - top f); minus = size-of f (top f - n); den = 2 ^ low f; above = pow-pos (low f) }
 
-minus-plus : (f : Format) → signed true (size-of f 0) (2 ^ low f) (pow-pos (low f)) ≺ signed false (size-of f 1) (2 ^ low f) (pow-pos (low f))
-minus-plus f = omega (arith, times (size-of f 0) (size-of f 1) (2 ^ low f) (pow-pos (low f)) (grows (hid f) 0 (hid-pos f)))
+zero-size : (f : Format) → size-of f 0 ≡ 0
+zero-size binary32 = refl
+zero-size binary64 = refl
 
-minus-plus' : (f : Format) → signed true (size-of f 1) (2 ^ low f) (pow-pos (low f)) ≺ signed false (size-of f 0) (2 ^ low f) (pow-pos (low f))
-minus-plus' f = omega (arith, times (size-of f 0) (size-of f 1) (2 ^ low f) (pow-pos (low f)) (grows (hid f) 0 (hid-pos f)))
+at-grows : (f : Format) (n : ℕ) → at f n ≺ at f (suc n)
+at-grows f n = go (ltb n (top f)) (ltb→lt n (top f)) (nltb→le n (top f))
+  where
+    times : {a b : ℕ} → a < b → a * 2 ^ low f < b * 2 ^ low f
+    times h = mul-lt-mul-of-pos-right h (pow-pos (low f))
 
--- ---- the next pattern's value
-pub neqb→ne : (a b : ℕ) → T (not (eqb a b)) → a ≢ b
+    go : (t : Bool) → (T t → n < top f) → (T (not t) → top f ≤ n) → at f n ≺ at f (suc n)
+    go true h k =
+        let e : top f - n ≡ suc (top f - suc n) = omega (arith, h tt) in
+        let e' : n - top f ≡ 0 = omega (arith, h tt) in
+        let e'' : suc n - top f ≡ 0 = omega (arith, h tt) in
+        record { cross = rw (e, e', e'') (omega (arith, times (grows (hid f) (top f - suc n) (hid-pos f)))) }
+    go false h k =
+        let e : suc n - top f ≡ suc (n - top f) = omega (arith, k tt) in
+        let e' : top f - n ≡ 0 = omega (arith, k tt) in
+        let e'' : top f - suc n ≡ 0 = omega (arith, k tt) in
+        record { cross = rw (e, e', e'') (omega (arith, times (grows (hid f) (n - top f) (hid-pos f)))) }
+
+at-mono : (f : Format) (n m : ℕ) → n ≤ m → at f n ≼ at f m
+at-mono f n zero h = let e : n ≡ 0 = omega arith in rw e (≼-refl (at f 0))
+at-mono f n (suc m) h = elim (eq-or-lt-of-le h) [ inl e ↦ rw e (≼-refl (at f (suc m))) | inr l ↦ ≼-trans (at-mono f n m (le-of-suc-le-suc l)) (≺→≼ (at-grows f m)) ]
+
+-- x has the place n, and is finite where that is nearer to the zeros than an infinity's, and no NaN where it is as near
+record Place (f : Format) (n : ℕ) (x : Float) : Type 0 where
+  inner : T (finite x) → (top f < n + ones f * hid f) × (n < top f + ones f * hid f)
+  number : top f < n + ones f * hid f → n < top f + ones f * hid f → T (finite x)
+  real : top f ≤ n + ones f * hid f → n ≤ top f + ones f * hid f → T (not (isNan x))
+  is : T (finite x) → (value x ≼ at f n) × (at f n ≼ value x)
+
+neqb→ne : (a b : ℕ) → T (not (eqb a b)) → a ≢ b
 neqb→ne a b n e = T-not (eqb a b) n (eq→eqb e)
 
-pub one-lt-top : (f : Format) → 1 < top f
+one-lt-top : (f : Format) → 1 < top f
 one-lt-top f = omega (arith, hid-pos f)
 
-module _ (f : Format) (b : ℕ) (B : b < 2 * top f) (p : T (finite (ofBits f b))) where
-  up-lt : T (finite (ofBits f (bitsUp f b))) → value (ofBits f b) ≺ value (ofBits f (bitsUp f b))
-  unfolding bitsUp
-  up-lt = go (ltb b (top f)) (eqb b (top f)) (ltb→lt b (top f)) (nltb→le b (top f)) (eqb→eq b (top f)) (neqb→ne b (top f))
-    where
-      plus : b < top f → T (finite (ofBits f (suc b))) → value (ofBits f b) ≺ value (ofBits f (suc b))
-      plus h k =
-          let r : suc b < top f = room f false b h (rw (read-plus f b h) at p) in
-          apart f false false b (suc b) (ofBits f b) (ofBits f (suc b)) (read-plus f b h) (read-plus f (suc b) r) p k (plus-plus f b)
+module _ (f : Format) where
+  read-value : (s : Bool) (c : ℕ) (x : Float) → x ≡ ofFields f s (c / hid f) (c % hid f) → T (finite x)
+      → (value x ≼ signed s (size-of f c) (2 ^ low f) (pow-pos (low f))) × (signed s (size-of f c) (2 ^ low f) (pow-pos (low f)) ≼ value x)
+  read-value s c x e p = value-is x s (size-of f c) (2 ^ low f) (pow-pos (low f)) (rw e (fields-value f s (c / hid f) (c % hid f) (rw e at p)))
 
-      minus : (c : ℕ) → b ≡ top f + suc c → T (finite (ofBits f (b - 1))) → value (ofBits f b) ≺ value (ofBits f (b - 1))
-      minus c e k =
-          let e' : b - 1 ≡ top f + c = omega (arith, e) in
-          let h : suc c < top f = omega (arith, e, B) in
-          apart f true true (suc c) c (ofBits f b) (ofBits f (b - 1)) (ap (ofBits f) e ∙ read-minus f (suc c) h) (ap (ofBits f) e' ∙ read-minus f c (omega (arith, h))) p k (minus-minus f c)
+  plus-place : (c n : ℕ) → c < top f → n ≡ top f + c → Place f n (ofBits f c)
+  plus-place c n h e =
+      let r = read-plus f c h in
+      let d : n - top f ≡ c = omega (arith, e) in
+      let d' : top f - n ≡ 0 = omega (arith, e) in
+      record {
+        inner = λ p. let k = below-inf f false c h (rw r at p) in (omega (arith, e, k), omega (arith, e, k));
+        number = λ l u. rw r (fields-below f false c (omega (arith, e, u)));
+        real = λ l u. rw (← nanBits-is f c) (real-plus f c h (omega (arith, e, u)));
+        is = λ p. rw (d, d', zero-size f) (read-value false c (ofBits f c) r p);
+      }
 
-      zeroth : b ≡ top f → T (finite (ofBits f 1)) → value (ofBits f b) ≺ value (ofBits f 1)
-      zeroth e k =
-          let e' : b ≡ top f + 0 = omega (arith, e) in
-          apart f true false 0 1 (ofBits f b) (ofBits f 1) (ap (ofBits f) e' ∙ read-minus f 0 (omega (arith, one-lt-top f))) (read-plus f 1 (one-lt-top f)) p k (minus-plus f)
+  minus-place : (b c n : ℕ) → b ≡ top f + c → c < top f → n + c ≡ top f → Place f n (ofBits f b)
+  minus-place b c n i h e =
+      let r = ap (ofBits f) i ∙ read-minus f c h in
+      let d : n - top f ≡ 0 = omega (arith, e) in
+      let d' : top f - n ≡ c = omega (arith, e) in
+      record {
+        inner = λ p. let k = below-inf f true c h (rw r at p) in (omega (arith, e, k), omega (arith, e, k));
+        number = λ l u. rw r (fields-below f true c (omega (arith, e, l)));
+        real = λ l u. rw (← nanBits-is f b, i) (real-minus f c h (omega (arith, e, l)));
+        is = λ p. rw (d, d', zero-size f) (read-value true c (ofBits f b) r p);
+      }
 
-      go : (t u : Bool) → (T t → b < top f) → (T (not t) → top f ≤ b) → (T u → b ≡ top f) → (T (not u) → b ≢ top f)
-          → T (finite (ofBits f (cond t (suc b) (cond u 1 (b - 1))))) → value (ofBits f b) ≺ value (ofBits f (cond t (suc b) (cond u 1 (b - 1))))
-      go true u h i j l k = plus (h tt) k
-      go false true h i j l k = zeroth (j tt) k
-      go false false h i j l k = minus (b - suc (top f)) (omega (arith, i tt, l tt)) k
+-- the places of a float and of its neighbours
+record Neighbours (f : Format) (x up down : Float) : Type 0 where
+  place : ℕ
+  here : Place f (suc place) x
+  above : Place f (suc (suc place)) up
+  below : Place f place down
 
-  down-lt : T (finite (ofBits f (bitsDown f b))) → value (ofBits f (bitsDown f b)) ≺ value (ofBits f b)
-  unfolding bitsDown
-  down-lt = go (ltb b (top f)) (eqb b 0) (ltb→lt b (top f)) (nltb→le b (top f)) (eqb→eq b 0) (neqb→ne b 0)
-    where
-      plus : (c : ℕ) → b ≡ suc c → b < top f → T (finite (ofBits f (b - 1))) → value (ofBits f (b - 1)) ≺ value (ofBits f b)
-      plus c e h k =
-          let e' : b - 1 ≡ c = omega (arith, e) in
-          let h' : suc c < top f = omega (arith, e, h) in
-          apart f false false c (suc c) (ofBits f (b - 1)) (ofBits f b) (ap (ofBits f) e' ∙ read-plus f c (omega (arith, h'))) (ap (ofBits f) e ∙ read-plus f (suc c) h') k p (plus-plus f c)
+neighbours : (f : Format) (b : ℕ) → b < 2 * top f → T (finite (ofBits f b)) → Neighbours f (ofBits f b) (ofBits f (bitsUp f b)) (ofBits f (bitsDown f b))
+unfolding bitsUp bitsDown
+neighbours f b B p = go (ltb b (top f)) (eqb b 0) (eqb b (top f)) (ltb→lt b (top f)) (nltb→le b (top f)) (eqb→eq b 0) (neqb→ne b 0) (eqb→eq b (top f)) (neqb→ne b (top f))
+  where
+    plus : (d : ℕ) → b < top f → Place f (top f + b - 1) (ofBits f d) → Neighbours f (ofBits f b) (ofBits f (suc b)) (ofBits f d)
+    plus d h k = record {
+      place = top f + b - 1;
+      here = plus-place f b _ h (omega (arith, one-lt-top f));
+      above = plus-place f (suc b) _ (room f false b h (rw (read-plus f b h) at p)) (omega (arith, one-lt-top f));
+      below = k;
+    }
 
-      minus : (c : ℕ) → b ≡ top f + c → T (finite (ofBits f (suc b))) → value (ofBits f (suc b)) ≺ value (ofBits f b)
-      minus c e k =
-          let e' : suc b ≡ top f + suc c = omega (arith, e) in
-          let h : c < top f = omega (arith, e, B) in
-          let r : suc c < top f = room f true c h (rw (ap (ofBits f) e ∙ read-minus f c h) at p) in
-          apart f true true (suc c) c (ofBits f (suc b)) (ofBits f b) (ap (ofBits f) e' ∙ read-minus f (suc c) r) (ap (ofBits f) e ∙ read-minus f c h) k p (minus-minus f c)
+    minus : (c u : ℕ) → b ≡ top f + c → Place f (suc (top f - c)) (ofBits f u) → Neighbours f (ofBits f b) (ofBits f u) (ofBits f (suc b))
+    minus c u e k =
+        let h : c < top f = omega (arith, e, B) in
+        let r = room f true c h (rw (ap (ofBits f) e ∙ read-minus f c h) at p) in
+        let i : top f - c ≡ suc (top f - c - 1) = omega (arith, h) in
+        record {
+          place = top f - c - 1;
+          here = minus-place f b c _ e h (omega (arith, h));
+          above = rw i at k;
+          below = minus-place f (suc b) (suc c) _ (omega (arith, e)) r (omega (arith, h));
+        }
 
-      zeroth : b ≡ 0 → T (finite (ofBits f (suc (top f)))) → value (ofBits f (suc (top f))) ≺ value (ofBits f b)
-      zeroth e k =
-          let e' : suc (top f) ≡ top f + 1 = omega arith in
-          apart f true false 1 0 (ofBits f (suc (top f))) (ofBits f b) (ap (ofBits f) e' ∙ read-minus f 1 (one-lt-top f)) (ap (ofBits f) e ∙ read-plus f 0 (omega (arith, one-lt-top f))) k p (minus-plus' f)
+    go : (t u v : Bool) → (T t → b < top f) → (T (not t) → top f ≤ b) → (T u → b ≡ 0) → (T (not u) → b ≢ 0) → (T v → b ≡ top f) → (T (not v) → b ≢ top f)
+        → Neighbours f (ofBits f b) (ofBits f (cond t (suc b) (cond v 1 (b - 1)))) (ofBits f (cond t (cond u (suc (top f)) (b - 1)) (suc b)))
+    go true true v h i j k l m = plus _ (h tt) (minus-place f _ 1 _ (omega arith) (one-lt-top f) (omega (arith, j tt, one-lt-top f)))
+    go true false v h i j k l m = plus _ (h tt) (plus-place f (b - 1) _ (omega (arith, h tt)) (omega (arith, k tt)))
+    go false u true h i j k l m = minus 0 1 (omega (arith, l tt)) (plus-place f 1 _ (one-lt-top f) (omega arith))
+    go false u false h i j k l m = minus (b - top f) _ (omega (arith, i tt)) (minus-place f (b - 1) (b - top f - 1) _ (omega (arith, i tt, m tt)) (omega (arith, B)) (omega (arith, i tt, m tt, B)))
 
-      go : (t u : Bool) → (T t → b < top f) → (T (not t) → top f ≤ b) → (T u → b ≡ 0) → (T (not u) → b ≢ 0)
-          → T (finite (ofBits f (cond t (cond u (suc (top f)) (b - 1)) (suc b)))) → value (ofBits f (cond t (cond u (suc (top f)) (b - 1)) (suc b))) ≺ value (ofBits f b)
-      go true true h i j l k = zeroth (j tt) k
-      go true false h i j l k = plus (b - 1) (omega (arith, l tt)) (h tt) k
-      go false u h i j l k = minus (b - top f) (omega (arith, i tt)) k
+around : (f : Format) (x : Float) → T (fits f x) → T (finite x) → Neighbours f x (nextUp f x) (nextDown f x)
+unfolding nextUp nextDown
+around f x h p =
+    let e : ofBits f (toBits f x) ≡ x = ofBits-toBits f x h in
+    subst (λ (y : Float). Neighbours f y (nextUp f x) (nextDown f x)) e (neighbours f (toBits f x) (toBits-lt f x h) (subst (λ (y : Float). T (finite y)) (sym e) p))
 
 -- ---- the laws
-pub nextUp-lt : (f : Format) (x : Float) → T (fits f x) → T (finite x) → T (finite (nextUp f x)) → value x ≺ value (nextUp f x)
-unfolding nextUp
-nextUp-lt f x h p k =
-    let e : ofBits f (toBits f x) ≡ x = ofBits-toBits f x h in
-    subst (λ (y : Float). value y ≺ value (ofBits f (bitsUp f (toBits f x)))) e (up-lt f (toBits f x) (toBits-lt f x h) (subst (λ (y : Float). T (finite y)) (sym e) p) k)
+module _ (f : Format) (x : Float) (h : T (fits f x)) (p : T (finite x)) where
+  pub nextUp-lt : T (finite (nextUp f x)) → value x ≺ value (nextUp f x)
+  nextUp-lt k = let a = around f x h p in ≼-≺-trans (a .here .is p .0) (≺-≼-trans (at-grows f _) (a .above .is k .1))
 
-pub nextDown-lt : (f : Format) (x : Float) → T (fits f x) → T (finite x) → T (finite (nextDown f x)) → value (nextDown f x) ≺ value x
-unfolding nextDown
-nextDown-lt f x h p k =
-    let e : ofBits f (toBits f x) ≡ x = ofBits-toBits f x h in
-    subst (λ (y : Float). value (ofBits f (bitsDown f (toBits f x))) ≺ value y) e (down-lt f (toBits f x) (toBits-lt f x h) (subst (λ (y : Float). T (finite y)) (sym e) p) k)
+  pub nextDown-lt : T (finite (nextDown f x)) → value (nextDown f x) ≺ value x
+  nextDown-lt k = let a = around f x h p in ≼-≺-trans (a .below .is k .0) (≺-≼-trans (at-grows f _) (a .here .is p .1))
+
+-- no float lies between a float and the next one
+module _ (f : Format) (x y : Float) (h : T (fits f x)) (k : T (fits f y)) (p : T (finite x)) (q : T (finite y)) (l : value x ≺ value y) where
+  abbrev a : Neighbours f x (nextUp f x) (nextDown f x)
+  a = around f x h p
+
+  abbrev b : Neighbours f y (nextUp f y) (nextDown f y)
+  b = around f y k q
+
+  in-order : a .place < b .place
+  in-order = lt-of-not-le (λ n. ≺-not-≼ l (≼-trans (b .here .is q .0) (≼-trans (at-mono f (suc (b .place)) (suc (a .place)) (omega (arith, n))) (a .here .is p .1))))
+
+  pub nextUp-least : T (finite (nextUp f x)) × (value (nextUp f x) ≼ value y)
+  nextUp-least =
+      let w : T (finite (nextUp f x)) = a .above .number (omega (arith, a .here .inner p)) (omega (arith, in-order, b .here .inner q)) in
+      (w, ≼-trans (a .above .is w .0) (≼-trans (at-mono f (suc (suc (a .place))) (suc (b .place)) (omega (arith, in-order))) (b .here .is q .1)))
+
+  pub nextDown-greatest : T (finite (nextDown f y)) × (value x ≼ value (nextDown f y))
+  nextDown-greatest =
+      let w : T (finite (nextDown f y)) = b .below .number (omega (arith, in-order, a .here .inner p)) (omega (arith, b .here .inner q)) in
+      (w, ≼-trans (a .here .is p .0) (≼-trans (at-mono f (suc (a .place)) (b .place) (omega (arith, in-order))) (b .below .is w .1)))
 
 -- ---- the laws as ones of `le`, the infinities included. (Past the greatest infinity there is no number, and past the least comes the least number.)
 past-inf : (f : Format) → nextUp f (inf false) ≡ nan
@@ -275,71 +333,20 @@ nextDown-under f (inf true) h n k = absurd (subst (λ (y : Float). T (finite y))
 nextDown-under f (fin s m e) h n k = ≺→not-le (nextDown f (fin s m e)) (fin s m e) k tt (nextDown-lt f (fin s m e) h tt k)
 
 -- ---- a program may read the next pattern: it is none of a NaN
-pub real-plus : (f : Format) (c : ℕ) → c < top f → c ≤ ones f * hid f → T (not (nanBits f c))
-real-plus f c h k = subst (λ (b : Bool). T (not b)) (sym (nanBits-above f c ∙ ap (ltb (ones f * hid f)) (mod-eq-of-lt h))) (le→nltb (ones f * hid f) c k)
-
-real-minus : (f : Format) (c : ℕ) → c < top f → c ≤ ones f * hid f → T (not (nanBits f (top f + c)))
-real-minus f c h k = subst (λ (b : Bool). T (not b)) (sym (nanBits-above f (top f + c) ∙ ap (ltb (ones f * hid f)) (add-mod-left (top f) c ∙ mod-eq-of-lt h))) (le→nltb (ones f * hid f) c k)
-
-module _ (f : Format) (b : ℕ) (B : b < 2 * top f) (p : T (finite (ofBits f b))) where
-  up-real : T (not (nanBits f (bitsUp f b)))
-  unfolding bitsUp
-  up-real = go (ltb b (top f)) (eqb b (top f)) (ltb→lt b (top f)) (nltb→le b (top f)) (neqb→ne b (top f))
-    where
-      plus : b < top f → T (not (nanBits f (suc b)))
-      plus h =
-          let k : suc b ≤ ones f * hid f = below-inf f false b h (rw (read-plus f b h) at p) in
-          real-plus f (suc b) (omega (arith, k, hid-pos f)) k
-
-      minus : (c : ℕ) → b ≡ top f + suc c → T (not (nanBits f (b - 1)))
-      minus c e =
-          let e' : b - 1 ≡ top f + c = omega (arith, e) in
-          let h : suc c < top f = omega (arith, e, B) in
-          let k : suc (suc c) ≤ ones f * hid f = below-inf f true (suc c) h (rw (ap (ofBits f) e ∙ read-minus f (suc c) h) at p) in
-          rw e' (real-minus f c (omega (arith, h)) (omega (arith, k)))
-
-      go : (t u : Bool) → (T t → b < top f) → (T (not t) → top f ≤ b) → (T (not u) → b ≢ top f) → T (not (nanBits f (cond t (suc b) (cond u 1 (b - 1)))))
-      go true u h i l = plus (h tt)
-      go false true h i l = real-plus f 1 (one-lt-top f) (omega (arith, hid-pos f))
-      go false false h i l = minus (b - suc (top f)) (omega (arith, i tt, l tt))
-
-  down-real : T (not (nanBits f (bitsDown f b)))
-  unfolding bitsDown
-  down-real = go (ltb b (top f)) (eqb b 0) (ltb→lt b (top f)) (nltb→le b (top f)) (neqb→ne b 0)
-    where
-      plus : (c : ℕ) → b ≡ suc c → b < top f → T (not (nanBits f (b - 1)))
-      plus c e h =
-          let k : suc b ≤ ones f * hid f = below-inf f false b h (rw (read-plus f b h) at p) in
-          real-plus f (b - 1) (omega (arith, h)) (omega (arith, k))
-
-      minus : (c : ℕ) → b ≡ top f + c → T (not (nanBits f (suc b)))
-      minus c e =
-          let e' : suc b ≡ top f + suc c = omega (arith, e) in
-          let h : c < top f = omega (arith, e, B) in
-          let k : suc c ≤ ones f * hid f = below-inf f true c h (rw (ap (ofBits f) e ∙ read-minus f c h) at p) in
-          rw e' (real-minus f (suc c) (omega (arith, k, hid-pos f)) k)
-
-      zeroth : T (not (nanBits f (suc (top f))))
-      zeroth =
-          let e' : suc (top f) ≡ top f + 1 = omega arith in
-          rw e' (real-minus f 1 (one-lt-top f) (omega (arith, hid-pos f)))
-
-      go : (t u : Bool) → (T t → b < top f) → (T (not t) → top f ≤ b) → (T (not u) → b ≢ 0) → T (not (nanBits f (cond t (cond u (suc (top f)) (b - 1)) (suc b))))
-      go true true h i l = zeroth
-      go true false h i l = plus (b - 1) (omega (arith, l tt)) (h tt)
-      go false u h i l = minus (b - top f) (omega (arith, i tt))
-
 pub finite-not-nan : (x : Float) → T (finite x) → T (not (isNan x))
 unfolding isNan
 finite-not-nan nan p = p
 finite-not-nan (inf s) p = absurd p
 finite-not-nan (fin s m e) p = tt
 
-pub bitsUp-real : (f : Format) (x : Float) → T (fits f x) → T (finite x) → T (not (nanBits f (bitsUp f (toBits f x))))
-bitsUp-real f x h p = up-real f (toBits f x) (toBits-lt f x h) (subst (λ (y : Float). T (finite y)) (sym (ofBits-toBits f x h)) p)
+module _ (f : Format) (x : Float) (h : T (fits f x)) (p : T (finite x)) where
+  pub bitsUp-real : T (not (nanBits f (bitsUp f (toBits f x))))
+  unfolding nextUp
+  bitsUp-real = let a = around f x h p in rw (nanBits-is f (bitsUp f (toBits f x))) (a .above .real (omega (arith, a .here .inner p)) (omega (arith, a .here .inner p)))
 
-pub bitsDown-real : (f : Format) (x : Float) → T (fits f x) → T (finite x) → T (not (nanBits f (bitsDown f (toBits f x))))
-bitsDown-real f x h p = down-real f (toBits f x) (toBits-lt f x h) (subst (λ (y : Float). T (finite y)) (sym (ofBits-toBits f x h)) p)
+  pub bitsDown-real : T (not (nanBits f (bitsDown f (toBits f x))))
+  unfolding nextDown
+  bitsDown-real = let a = around f x h p in rw (nanBits-is f (bitsDown f (toBits f x))) (a .below .real (omega (arith, a .here .inner p)) (omega (arith, a .here .inner p)))
 
 -- ---- the next pattern as a program works it out: the sign is a number, and zeros are left aside
 sign-set : (f : Format) (b : ℕ) → top f ≤ b → b < 2 * top f → b / top f ≡ 1

@@ -107,10 +107,10 @@ zero-in r f z w = (
   ≼-trans (zero-value (r .lower) (f .0) (is-true (eq (r .lower) zeroD) (and-l (eq (r .lower) zeroD) (eq (r .upper) zeroD) z)) .1) (w .low),
 )
 
-plus-zero-fits : (x : Float) → T (fits binary64 x) → T (fits binary64 (plusZero x))
+pub plus-zero-fits : (x : Float) → T (fits binary64 x) → T (fits binary64 (plusZero x))
 plus-zero-fits x f = cond-fits binary64 (eq x zeroD) zeroD x zero-double f
 
-plus-zero-value : (x : Float) → T (fits binary64 x) → value (plusZero x) ≈ value x
+pub plus-zero-value : (x : Float) → T (fits binary64 x) → value (plusZero x) ≈ value x
 plus-zero-value x f = go (eq x zeroD) refl
   where
     go : (b : Bool) → eq x zeroD ≡ b → value (cond b zeroD x) ≈ value x

@@ -144,6 +144,14 @@ module _ (op : Float → Float → Float) (exact : Fraction → Fraction → Fra
     is-real : T (le (op x y) (op x y))
     is-real = real binary64 (op x y) (exact (value x) (value y)) K
 
+  pub corners-in-order : T (le (lowest op r s) (highest op r s))
+  corners-in-order =
+      let i = least-is (op (r .lower) (s .lower)) (op (r .lower) (s .upper)) (is-real (r .lower) (s .lower) (R .low-low)) (is-real (r .lower) (s .upper) (R .low-high)) in
+      let j = least-is (op (r .upper) (s .lower)) (op (r .upper) (s .upper)) (is-real (r .upper) (s .lower) (R .high-low)) (is-real (r .upper) (s .upper) (R .high-high)) in
+      let k = greatest-is (op (r .lower) (s .lower)) (op (r .lower) (s .upper)) (is-real (r .lower) (s .lower) (R .low-low)) (is-real (r .lower) (s .upper) (R .low-high)) in
+      let l = greatest-is (op (r .upper) (s .lower)) (op (r .upper) (s .upper)) (is-real (r .upper) (s .lower) (R .high-low)) (is-real (r .upper) (s .upper) (R .high-high)) in
+      le-trans _ _ _ (least-is _ _ (i .2) (j .2) .0) (le-trans _ _ _ (i .0) (le-trans _ _ _ (k .0) (greatest-is _ _ (k .2) (l .2) .0)))
+
   pub low-corners : T (finite (before (lowest op r s))) → AtEnds (λ x y. value (before (lowest op r s)) ≼ exact (value x) (value y)) r s
   low-corners p =
       let i = least-is (op (r .lower) (s .lower)) (op (r .lower) (s .upper)) (is-real (r .lower) (s .lower) (R .low-low)) (is-real (r .lower) (s .upper) (R .low-high)) in

@@ -121,7 +121,7 @@ scaled-up (inf s) n f p h = absurd p
 scaled-up (fin s m e) n f p h = let u = in-units binary64 (fin s m e) f p in exact-either m e n (u .0) (u .1) (u .2) (u .3 .1) s h
 
 -- ---- `eq` says that two doubles are one number
-equal→≈ : (x y : Float) → T (finite y) → eq x y ≡ true → T (finite x) × (value x ≈ value y)
+pub equal→≈ : (x y : Float) → T (finite y) → eq x y ≡ true → T (finite x) × (value x ≈ value y)
 unfolding eq
 equal→≈ nan y p h = absurd (false≢true h)
 equal→≈ (inf s) nan p h = absurd p

@@ -4,3 +4,4 @@ pub mod Exact
 pub mod Enclosed
 pub mod Applied
 pub mod Positive
+pub mod Moderate

@@ -12,15 +12,16 @@ use elementary::exponential::power_of_two;
 use elementary::next::next_down;
 use elementary::next::next_up;
 ghost use mathlib.Core.Path.{_≡_};
-ghost use mathlib.Core.Bool.{true, false, cond, not, _&&_};
+ghost use mathlib.Core.Bool.{true, false, cond, _&&_};
 ghost use lib.Dec.{T};
 ghost use lib.IntN.{pos, negsuc};
 ghost use lib.Signed.{leZ};
 ghost use lib.Ieee as Ieee;
-ghost use lib.Ieee.{binary64, fits, lt, le, eq};
+ghost use lib.Ieee.{binary64, lt, eq};
 ghost use Rattle.arithmetic.specs.Basic.{floor};
 ghost use Rattle.arithmetic.specs.Constants as K;
 ghost use Rattle.arithmetic.specs.Recipes as R;
+ghost use Rattle.range.specs.Moderate.{moderate};
 ghost use Rattle.range.specs.Rules as Rules;
 ghost use Rattle.range.specs.Rules.{rules, ranges, before, after};
 
@@ -89,8 +90,7 @@ fn exp_between(v: Range) -> Range
 
 // Whether a power of [1, 1] by it is known: it lies between -1000 and 1000, with its ends in order, and does not start at 0.
 fn is_moderate(b: Range) -> bool
-    ensures { λ r. ⌜ (r ≡ (le (Ieee.neg (K.bits 0x408F400000000000)) (b .lower) && le (b .lower) (b .upper) && le (b .upper) (K.bits 0x408F400000000000) && not (eq (b .lower) K.zeroD)))
-        × T (fits binary64 (b .lower)) × T (fits binary64 (b .upper)) ⌝ }
+    ensures { λ r. ⌜ r ≡ moderate b ⌝ }
 {
     if b.lower >= -1000.0 {
         if b.lower <= b.upper {
@@ -111,7 +111,7 @@ impl Range {
 
     // Whether it is [1, 1].
     fn is_one(self) -> bool
-        ensures { λ r. ⌜ (r ≡ (eq (self .lower) K.one && eq (self .upper) K.one)) × T (fits binary64 (self .lower)) × T (fits binary64 (self .upper)) ⌝ }
+        ensures { λ r. ⌜ r ≡ (eq (self .lower) K.one && eq (self .upper) K.one) ⌝ }
     {
         if self.lower == 1.0 {
             return self.upper == 1.0;

@@ -3,10 +3,10 @@ use Rattle.range.proofs.basic.Range.is_one.Statement.{statement}
 use Rattle.range.proofs.basic.Range.is_one.Tie as tie
 
 returns : tie.Need-returns
-returns c = (rw (c .before .if1 .taken), c .struct-known2 .given .0, c .struct-known2 .given .1 .0)
+returns c = rw (c .before .if1 .taken)
 
 returns-2 : tie.Need-returns-2
-returns-2 c = (rw (c .if1 .left), c .before .struct-known .given .0, c .before .struct-known .given .1 .0)
+returns-2 c = rw (c .if1 .left)
 
 pub is-one-spec : {M : Type 1} → statement M
 is-one-spec = tie.close (tie.spec returns returns-2)

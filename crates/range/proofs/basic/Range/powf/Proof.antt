@@ -10,9 +10,10 @@ use Rattle.range.proofs.basic.Range.powf.Tie as tie
 
 returns : tie.Need-returns
 returns c =
-    let one = c .before .before .before .is-one .ensures in
-    let moderate = c .before .is-moderate .ensures in
-    sym (tested-power _ _ (one .1) (one .2) (moderate .1) (moderate .2) (subst T (sym (sym (one .0) ∙ c .before .before .if1 .taken)) tt) (subst T (sym (sym (moderate .0) ∙ c .if2 .taken)) tt))
+    let ones = c .before .before in
+    let one = ones .before .is-one .ensures in
+    let start = ones .before .before in
+    sym (tested-power _ _ (subst T (sym (start .good .0 .1 .1 .0 .1)) tt) (subst T (sym (start .good .0 .1 .1 .1 .0 .1)) tt) (subst T (sym (sym one ∙ ones .if1 .taken)) tt) (subst T (sym (sym (c .before .is-moderate .ensures) ∙ c .if2 .taken)) tt))
 
 if-above-requires : tie.Need-if-above-requires
 unfolding ofBits neg
