@@ -6,15 +6,14 @@ use Prim.Native.Nat.{ℕ, zero, suc, _<_}
 use native.Mathlib.Nat.{eq-or-lt-of-le}
 use native.Mathlib.Omega.{arith}
 use lib.Dec.{T}
-use lib.IntN.{ℤ}
 use lib.Ieee.{Float, nan, inf, fin, binary64, isNan}
 use lib.Ieee as Ieee
 use lib.Ieee.Scale.{finite}
-use Rattle.arithmetic.specs.Basic.{Basic, Limit, Step, above, below, passes}
+use Rattle.arithmetic.specs.Basic.{Basic, below, passes}
 use Rattle.arithmetic.specs.Value.{value}
 use Rattle.arithmetic.specs.Constants.{zeroD, one}
 use Rattle.arithmetic.specs.Recipes as R
-use Rattle.arithmetic.specs.Arithmetic.{Arithmetic, over, powerBy, sumBy}
+use Rattle.arithmetic.specs.Arithmetic.{over, powerBy, sumBy}
 use Rattle.arithmetic.specs.Root.{sqrt}
 use Rattle.arithmetic.specs.Doubles.{checked, strict, doubles}
 use Rattle.arithmetic.specs.Failures.{KeepsFailure, KeepsFailures}

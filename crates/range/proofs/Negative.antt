@@ -1,18 +1,17 @@
 -- The product of a range above zero and one below it is the negated product with the other's opposite.
 use mathlib.Core.Path.{_≡_, refl, sym, ap, ap₂, subst, _∙_}
-use mathlib.Core.Logic.{_⊎_, inl, inr}
 use mathlib.Core.Bool.{Bool, true, false, not, cond, _&&_}
-use Prim.Native.Nat.{ℕ, zero, suc, _+_, _-_, _*_, _^_, _/_, _<_, _≤_}
+use Prim.Native.Nat.{ℕ, zero, suc, _+_, _-_, _*_, _^_, _/_, _<_}
 use native.Mathlib.Omega.{arith}
 use lib.Dec.{T, ltb, eqb}
-use lib.IntN.{ℤ, pos}
+use lib.IntN.{pos}
 use lib.Ieee.{Float, Format, nan, inf, fin, binary64, fits, lt, le, eq, neg, unlike, round, units, odd, ofFields, ofBits, toBits, top, hid, low, prec, ones, emax, up, down}
 use lib.Ieee as Ieee
-use lib.Ieee.Bits.{is-true, is-false}
-use lib.Ieee.Fits.{and-l, and-r, neg-fits, mul-fits}
+use lib.Ieee.Bits.{is-true}
+use lib.Ieee.Fits.{and-r, neg-fits, mul-fits}
 use lib.Ieee.Scale.{finite}
 use Rattle.arithmetic.specs.Constants.{largest, zeroD}
-use Rattle.arithmetic.specs.Fraction.{Fraction, null, _≼_, _≺_, _⊗_, opp, Apart}
+use Rattle.arithmetic.specs.Fraction.{null, _≼_, _≺_, opp}
 use Rattle.arithmetic.specs.Value.{value}
 use Rattle.arithmetic.specs.Next.{nextUp, nextDown, bitsUp, bitsDown}
 use Rattle.arithmetic.proofs.Next.{read-plus, read-minus, bitsUp-is, bitsDown-is, bitsUp-plus, bitsDown-plus, nextUp-lt, nextDown-lt, nextUp-fits, nextDown-fits}

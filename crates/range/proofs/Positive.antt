@@ -1,6 +1,6 @@
 -- Ranges above zero: a sum and a product are worked at the lower ends and at the upper ends, and moved outwards.
-use mathlib.Core.Path.{_≡_, refl, sym, ap, ap₂, subst, _∙_}
-use mathlib.Core.Bool.{Bool, true, false, not, cond, _&&_}
+use mathlib.Core.Path.{_≡_, refl, sym, ap, ap₂, subst}
+use mathlib.Core.Bool.{Bool, true, false, cond, _&&_}
 use native.Mathlib.Omega.{arith}
 use lib.Dec.{T, eqb}
 use lib.IntN.{pos}
@@ -13,7 +13,7 @@ use Rattle.arithmetic.specs.Constants.{largest, zeroD}
 use Rattle.arithmetic.specs.Fraction.{Fraction, null, _≼_, _≺_, _⊗_, _⊕_}
 use Rattle.arithmetic.specs.Value.{value}
 use Rattle.arithmetic.proofs.Fraction.{≼-refl, ≼-trans, ≺→≼, ≺-≼-trans, ⊕-mono, ⊗-mono, ⊗-swap}
-use Rattle.arithmetic.proofs.Value.{le→≼, ≼→le, ≺→lt, lt→le, le-trans, finite-between}
+use Rattle.arithmetic.proofs.Value.{le→≼, ≺→lt, lt→le, le-trans, finite-between}
 use Rattle.arithmetic.proofs.Next.{pattern-finite}
 use Rattle.arithmetic.proofs.Zero.{is-zero, above-zero}
 use Rattle.arithmetic.proofs.Rounding.{rounded-mono, add-is, mul-is}

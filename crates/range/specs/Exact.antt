@@ -1,10 +1,9 @@
 -- Document 01's "Exact reading", as a meaning of the operations: the formulas in fractions, nothing rounded, with any fraction between a root's ends each time a root is worked.
 use Prim.Native.Nat.{ℕ}
-use mathlib.Core.Bool.{Bool, true, false, cond, not, _&&_}
+use mathlib.Core.Bool.{cond, not, _&&_}
 use mathlib.Core.List.{List, [], _∷_}
 use mathlib.Core.Option.{Option, none, some}
 use lib.Dec.{eqb}
-use lib.Ieee.{Float}
 use Rattle.arithmetic.specs.Fraction.{Fraction, null, _⊕_, opp, _⊗_, _⊘_, twoTo, _≺?_}
 use Rattle.arithmetic.specs.Fraction as Fraction
 use Rattle.arithmetic.specs.Value.{value}

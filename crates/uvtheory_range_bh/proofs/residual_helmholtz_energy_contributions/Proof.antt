@@ -1,14 +1,10 @@
-use mathlib.Core.Path.{_≡_, _∙_, sym, subst}
-use mathlib.Core.List.{List}
+use mathlib.Core.Path.{_∙_, subst}
 use Rattle.range.specs.declared.basic.Range.{Range}
 use Rattle.range.specs.Rules.{rules, sqrt, failed, ranges}
-use Rattle.uvtheory.specs.declared.parameters.Mixture.{Mixture}
-use Rattle.uvtheory.specs.declared.parameters.State.{State}
 use Rattle.uvtheory.specs.Rows.{parameters, state}
-use Rattle.uvtheory.specs.HardSphere as H
 use Rattle.uvtheory.specs.Bh.HardSphere.{diameter-bh}
 use Rattle.uvtheory.proofs.Arrays.{hard-sphere-of}
-use Rattle.uvtheory_range.specs.Rows.{row, Row}
+use Rattle.uvtheory_range.specs.Rows.{Row}
 use Rattle.uvtheory_range_bh.proofs.residual_helmholtz_energy_contributions.Statement.{statement}
 use Rattle.uvtheory_range_bh.proofs.residual_helmholtz_energy_contributions.Tie as tie
 

@@ -2,9 +2,9 @@
 use mathlib.Core.Path.{_≡_, refl, sym, ap, ap₂, subst, _∙_}
 use Prim.Native.Nat.{ℕ, _+_, _-_, _<_}
 use native.Mathlib.Omega.{arith}
-use mathlib.Core.Bool.{Bool, true, false, not, cond, _&&_}
+use mathlib.Core.Bool.{Bool, true, false, cond, _&&_}
 use lib.Dec.{T}
-use lib.Ieee.{Float, nan, binary64, fits, lt, le, eq, toBits, ofBits, nanBits}
+use lib.Ieee.{Float, nan, binary64, fits, lt, le, eq, toBits, ofBits}
 use lib.Ieee.Bits.{is-true}
 use lib.Ieee.Scale.{finite}
 use Rattle.arithmetic.specs.Constants.{largest, zeroD}

@@ -1,7 +1,7 @@
 -- Below zero by the opposite range, else as any.
-use mathlib.Core.Path.{_≡_, sym, ap₂, subst, _∙_}
+use mathlib.Core.Path.{sym, ap₂, subst, _∙_}
 use lib.Dec.{T}
-use lib.Ieee.{Float, neg}
+use lib.Ieee.{neg}
 use lib.Ieee.Fits.{neg-fits}
 use lib.Ieee.{binary64, lt}
 use Rattle.arithmetic.specs.Constants.{zeroD}

@@ -1,10 +1,9 @@
 -- Where the tests pass, by the law of a product below zero; else as any.
-use mathlib.Core.Path.{_≡_, sym, ap₂, subst, _∙_}
+use mathlib.Core.Path.{sym, subst, _∙_}
 use lib.Dec.{T}
 use lib.Ieee.{neg, binary64}
 use lib.Ieee.Fits.{neg-fits}
 use Rattle.range.specs.Rules.{range}
-use Rattle.range.specs.Rules as Rules
 use Rattle.range.proofs.Negative.{StepTests, step-below, neg-neg}
 use Rattle.range.proofs.series.step_below.Statement.{statement}
 use Rattle.range.proofs.series.step_below.Tie as tie
