@@ -1,7 +1,7 @@
 #!/usr/bin/env python3
 """Compares every compiled method of crate range, bit for bit, with document 01's rules in whole numbers (range_rules.py).
 
-measure/ranges.py          345,160 operand pairs for each basic operation, 50,760 for each elementary function
+measure/ranges.py          345,160 operand pairs for each basic operation, 50,760 for each elementary function (772 more for powf)
 measure/ranges.py --quick  12,000 and 2,500
 measure/ranges.py --slips  makes the slips of range_slips.txt in the rules, one at a time; the quick comparison must see each
 
@@ -156,12 +156,16 @@ class Operands:
         return r.choice((NAN, INFINITY, INFINITY | SIGN)) if which == 7 else self.end()
 
     def of(self, name, crossed, count):
-        """Each edge as a point, and with the double above it; edges with edges, as two points or as the two ends of a range; then by chance."""
+        """Each edge as a point, and with the double above it; edges with edges, as two points or as the two ends of a range; powers of [1,1]; then by chance."""
         pairs = [(x, y) for x in EDGES for y in EDGES]
         if crossed < len(pairs):
             pairs = self.random.sample(pairs, crossed)
         first = [((x, moved(x, step)), self.range()) for x in EDGES for step in (0, 1)]
         first += [((x, x), (y, y)) if name in OF_TWO else ((x, y), self.range()) for x, y in pairs]
+        if name == "powf":  # powers of [1,1] have a shorter way, for exponents up to 1000
+            one, thousand = double_of(ONE), double_of(1000 * ONE)
+            ends = EDGES + [sign | moved(thousand, step) for sign in (0, SIGN) for step in (-1, 0, 1)]
+            first += [((one, one), (x, moved(x, step))) for x in ends for step in (0, 1)]
         for a, b in first + [(self.range(), self.range()) for _ in range(count)]:
             yield self.random.randrange(13), self.limit(a), a, b
 
