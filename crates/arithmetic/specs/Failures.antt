@@ -1,4 +1,4 @@
--- No operation loses a failure: where a result has not failed, its operands have not. A value that has not failed is a finite double, or a range with ends.
+-- No operation loses a failure: where a result has not failed, its operands have not. In doubles a failure is NaN, and in ranges it is a range without ends.
 use Prim.Native.Nat.{ℕ, suc, _<_}
 use mathlib.Core.Logic.{_⊎_}
 use lib.IntN.{ℤ}

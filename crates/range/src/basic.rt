@@ -179,7 +179,7 @@ impl Range {
         ends(-self.upper, -self.lower)
     }
 
-    // Most sums and products are of ranges above 0. These are worked here, short enough to be inlined; the others are calls, by their ends, so that no range is put in memory for them.
+    // Most sums and products are of ranges above 0. These are worked here, short enough to be inlined; the others are calls that take the four ends.
     pub fn add(self, other: Range) -> Range
         ensures { λ r. ⌜ r ≡ ranges .add self other ⌝ }
     {

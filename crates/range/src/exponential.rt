@@ -128,7 +128,7 @@ impl Range {
     }
 
     // v^b, as exp(b * ln v). A base of 0 gives 0 where b is above 0.
-    // A moderate power of [1, 1] is known, and is not worked: its logarithm has subnormal ends on either side of 0, the slowest operands there are.
+    // A moderate power of [1, 1] is known, and is not worked: its logarithm has ends on either side of 0, for which no shorter way serves, and subnormal ones.
     pub fn powf(self, b: Range) -> Range
         ensures { λ r. ⌜ r ≡ ranges .powf self b ⌝ }
     {

@@ -21,7 +21,7 @@ fn step_of(pl: f64, pu: f64, zl: f64, zu: f64, c: f64) -> Range
     sum_of(q.lower, q.upper, d.lower, d.upper)
 }
 
-// p * z + c for a z below 0. Where p is above 0, p * z is -(p * w) with w = -z, and where c outweighs it, so is the sum.
+// p * z + c for a z below 0. Where p is above 0, p * z is -(p * w) with w = -z; where c outweighs that, the sum is above 0.
 fn step_below(p: Range, z: Range, c: f64) -> Range
     ensures { λ r. ⌜ r ≡ rules .add (rules .mul p z) (rules .constant c) ⌝ }
 {
