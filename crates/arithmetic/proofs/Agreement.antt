@@ -1,17 +1,18 @@
 -- For every formula, what the code works, checked once at the end, is what the strict definition has: one law for each operation.
-use mathlib.Core.Path.{_≡_, refl, _∙_}
+use mathlib.Core.Path.{_≡_, refl, sym, subst, _∙_}
 use mathlib.Core.Option.{Option, none, some}
 use mathlib.Core.Bool.{Bool, true, false, cond, Bool·beq}
-use lib.Dec.{eqb}
+use lib.Dec.{T, eqb}
 use lib.IntN.{ℤ}
 use lib.Ieee.{Float, binary64, nan, inf, fin, unlike}
 use lib.Ieee as Ieee
+use lib.Ieee.Scale.{finite}
 use Rattle.arithmetic.specs.Value.{value}
-use Rattle.arithmetic.specs.Basic.{Limit, Step, passes, pick}
+use Rattle.arithmetic.specs.Basic.{Basic, Limit, Step, passes, pick}
 use Rattle.arithmetic.specs.Root.{sqrt}
 use Rattle.arithmetic.specs.Arithmetic.{Arithmetic}
 use Rattle.arithmetic.specs.Doubles.{checked, quotient, tested, stepped, orNan, strict, plain, doubles, guarded}
-use Rattle.arithmetic.proofs.Both.{BasicKept, Kept, both, over-kept}
+use Rattle.arithmetic.proofs.Both.{Both, bothOf, BasicKept, basicBoth, Kept, both, over-kept}
 
 -- the strict value d is the code's value g, checked
 pub record Same (g d : Float) : Type 0 where
@@ -19,6 +20,17 @@ pub record Same (g d : Float) : Type 0 where
 
 same : {g d : Float} → checked g ≡ d → Same g d
 same e = record { is = e }
+
+-- ---- what is finite passes the check
+pub checked-is : (x : Float) → T (finite x) → checked x ≡ x
+checked-is nan p = absurd p
+checked-is (inf s) p = absurd p
+checked-is (fin s m e) p = refl
+
+was-finite : (x : Float) → T (finite (checked x)) → T (finite x)
+was-finite nan p = absurd p
+was-finite (inf s) p = absurd p
+was-finite (fin s m e) p = tt
 
 -- ---- an operation on operands of which one is not finite, checked, is NaN
 cond-nan : (b : Bool) (x y : Float) → checked x ≡ nan → checked y ≡ nan → checked (cond b x y) ≡ nan
@@ -98,7 +110,7 @@ of-step s (fin t m e) f g h = go (pick s (value (fin t m e)))
     go (some k) = h k
 
 -- ---- the laws
-plain-strict : BasicKept plain strict Same
+pub plain-strict : BasicKept plain strict Same
 plain-strict = record {
   constant = λ k. same refl;
   add = λ {a} {b} {x} {y} p q. same (rw (← p .is, ← q .is) (of-add a b));
@@ -112,6 +124,17 @@ plain-strict = record {
   test = λ {a} {b} {c} {x} {y} {z} l p q r. same (rw (← p .is, ← q .is, ← r .is) (of-test l a b c));
   step = λ {a} {x} {f} {g} s p h. same (rw (← p .is) (of-step s a f g (λ k. h k .is)));
 }
+
+-- a recipe worked in `agreedBasic` is the proof that its plain value, checked, is its strict value ..
+abbrev pub agreedBasic : Basic
+agreedBasic = basicBoth plain strict Same plain-strict
+
+abbrev pub agreeing : (x : Float) → T (finite x) → Both Same
+agreeing x p = record { left = x; right = x; holds = record { is = checked-is x p } }
+
+-- .. so where the strict value is finite, it is the code's
+pub in-code : (b : Both Same) → T (finite (b .right)) → b .right ≡ b .left
+in-code b p = sym (b .holds .is) ∙ checked-is (b .left) (was-finite (b .left) (subst (λ (x : Float). T (finite x)) (sym (b .holds .is)) p))
 
 pub agreement : Kept guarded doubles Same
 agreement = over-kept plain strict Same plain-strict sqrt (λ x. checked (sqrt x)) (λ a x p. same (rw (← p .is) (of-sqrt a)))

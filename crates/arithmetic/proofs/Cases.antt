@@ -177,6 +177,10 @@ exponent-is q e i =
     rw (is-true (ltb (q .minus) (q .plus)) (lt→ltb (q .minus) (q .plus) h))
     (ap some (only binade binade-apart (near-in q h (minus (size (q .plus - q .minus)) (size (q .den))) (not-under (q .plus - q .minus) (q .den) k (q .above)) (not-over (q .plus - q .minus) (q .den) k (q .above))) i))
 
+pub exponent-some : (q : Fraction) → null ≺ q → (e : ℤ) × (exponentOf q ≡ some e)
+unfolding exponentOf
+exponent-some q h = (near q (minus (size (q .plus - q .minus)) (size (q .den))), rw (is-true (ltb (q .minus) (q .plus)) (lt→ltb (q .minus) (q .plus) (omega (arith, h)))) refl)
+
 pub exponent-none : (q : Fraction) → q ≼ null → exponentOf q ≡ none
 unfolding exponentOf
 exponent-none q h = rw (is-false (ltb (q .minus) (q .plus)) (le→nltb (q .minus) (q .plus) (omega (arith, h))))

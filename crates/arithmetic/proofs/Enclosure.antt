@@ -3,15 +3,15 @@
 use mathlib.Core.Path.{_≡_, sym, subst}
 use mathlib.Core.Bool.{Bool, not, _&&_}
 use lib.Dec.{T, T-not, not-T}
-use lib.Ieee.{Float, nan, inf, fin, Format, unlike, add, mul, div, le, fits, isNan}
+use lib.Ieee.{Float, nan, inf, fin, Format, unlike, add, sub, mul, div, neg, le, fits, isNan}
 use lib.Ieee.Scale.{finite}
-use Rattle.arithmetic.specs.Fraction.{Fraction, _≼_, _⊕_, _⊗_, _⊘_, Apart}
+use Rattle.arithmetic.specs.Fraction.{Fraction, _≼_, _⊕_, _⊖_, _⊗_, _⊘_, Apart}
 use Rattle.arithmetic.specs.Value.{value, sign, Within}
 use Rattle.arithmetic.specs.Rounding.{rounded}
 use Rattle.arithmetic.specs.Next.{nextUp, nextDown}
 use Rattle.arithmetic.proofs.Fraction.{≼-refl}
 use Rattle.arithmetic.proofs.Value.{le→≼, le-trans, finite-between}
-use Rattle.arithmetic.proofs.Rounding.{rounded-mono, held, at-most, at-least, add-is, mul-is, div-is}
+use Rattle.arithmetic.proofs.Rounding.{rounded-mono, held, at-most, at-least, add-is, sub-is, mul-is, div-is}
 use Rattle.arithmetic.proofs.Next.{nextUp-fits, nextDown-fits, nextUp-over, nextDown-under}
 
 -- the double x lies between lo and hi
@@ -34,6 +34,9 @@ Rounds f r q = (z : Bool) × (r ≡ rounded f z q)
 
 pub add-rounds : (f : Format) (x y : Float) → T (finite x) → T (finite y) → Rounds f (add f x y) (value x ⊕ value y)
 add-rounds f x y p q = (sign x && sign y, add-is f x y p q)
+
+pub sub-rounds : (f : Format) (x y : Float) → T (finite x) → T (finite y) → Rounds f (sub f x y) (value x ⊖ value y)
+sub-rounds f x y p q = (sign x && sign (neg y), sub-is f x y p q)
 
 pub mul-rounds : (f : Format) (x y : Float) → T (finite x) → T (finite y) → Rounds f (mul f x y) (value x ⊗ value y)
 mul-rounds f x y p q = (unlike (sign x) (sign y), mul-is f x y p q)

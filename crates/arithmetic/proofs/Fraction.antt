@@ -1,4 +1,4 @@
--- The laws of fractions: the order, and how sums, products and quotients keep it.
+-- The laws of fractions: the order, how sums, products and quotients keep it, and the laws of sums and products.
 use mathlib.Core.Path.{_≡_, sym, subst, _∙_}
 use mathlib.Core.Logic.{_⊎_, inl, inr}
 use Prim.Native.Nat.{ℕ, _+_, _-_, _*_, _≤_, _<_, max}
@@ -8,7 +8,7 @@ use mathlib.Core.Bool.{Bool, true, false, not, cond, true≢false}
 use lib.Dec.{T, ltb, ltb→lt, lt→ltb, nltb→le, not-T}
 use lib.Arith.{le→nltb}
 use lib.Ieee.Bits.{is-true, is-false}
-use Rattle.arithmetic.specs.Fraction.{Fraction, _≼_, _≺_, _≺?_, null, one, _⊕_, opp, _⊗_, gap, recip, _⊘_, Apart}
+use Rattle.arithmetic.specs.Fraction.{Fraction, _≼_, _≺_, _≺?_, null, one, _⊕_, opp, _⊖_, _⊗_, gap, recip, _⊘_, Apart}
 
 -- ---- the order
 pub ≼-refl : (x : Fraction) → x ≼ x
@@ -218,3 +218,69 @@ recip-is y (inr z) =
     let e' = rw (← back (y .plus) (y .minus) a) at e in
     let t : ltb (y .minus) (y .plus) ≡ false = is-false (ltb (y .minus) (y .plus)) (le→nltb (y .minus) (y .plus) (omega (arith, a))) in
     (record { cross = rw t (le-of-eq e') }, record { cross = rw t (omega (arith, e')) })
+
+-- ---- two fractions are one number
+infix 4 _≈_
+abbrev pub _≈_ : Fraction → Fraction → Type 0
+x ≈ y = (x ≼ y) × (y ≼ x)
+
+pub ≈-refl : (x : Fraction) → x ≈ x
+≈-refl x = (≼-refl x, ≼-refl x)
+
+pub ≈-sym : {x y : Fraction} → x ≈ y → y ≈ x
+≈-sym h = (h .1, h .0)
+
+pub ≈-trans : {x y z : Fraction} → x ≈ y → y ≈ z → x ≈ z
+≈-trans h k = (≼-trans (h .0) (k .0), ≼-trans (k .1) (h .1))
+
+pub ⊕-cong : {x x' y y' : Fraction} → x ≈ x' → y ≈ y' → x ⊕ y ≈ x' ⊕ y'
+⊕-cong h k = (⊕-mono (h .0) (k .0), ⊕-mono (h .1) (k .1))
+
+⊗-mono-at : (u : Fraction) {v y : Fraction} → v ≈ y → u ⊗ v ≼ u ⊗ y
+⊗-mono-at u h = elim (side u) [ inl z ↦ ⊗-mono z (h .0) | inr z ↦ ⊗-anti z (h .1) ]
+
+pub ⊗-cong-right : (u : Fraction) {v y : Fraction} → v ≈ y → u ⊗ v ≈ u ⊗ y
+⊗-cong-right u h = (⊗-mono-at u h, ⊗-mono-at u (≈-sym h))
+
+pub ⊗-comm : (u v : Fraction) → u ⊗ v ≈ v ⊗ u
+⊗-comm u v = (⊗-swap u v, ⊗-swap v u)
+
+pub ⊗-cong : {x x' y y' : Fraction} → x ≈ x' → y ≈ y' → x ⊗ y ≈ x' ⊗ y'
+⊗-cong {x} {x'} {y} {y'} h k = ≈-trans (⊗-cong-right x k) (≈-trans (⊗-comm x y') (≈-trans (⊗-cong-right y' h) (⊗-comm y' x')))
+
+pub ⊕-assoc : (x y z : Fraction) → x ⊕ y ⊕ z ≈ x ⊕ (y ⊕ z)
+⊕-assoc x y z = (omega arith, omega arith)
+
+pub ⊗-assoc : (x y z : Fraction) → x ⊗ y ⊗ z ≈ x ⊗ (y ⊗ z)
+⊗-assoc x y z = (omega arith, omega arith)
+
+pub ⊕-comm : (x y : Fraction) → x ⊕ y ≈ y ⊕ x
+⊕-comm x y = (omega arith, omega arith)
+
+-- in long fractions the parts that are added and the parts that are taken off are compared apart
+by-parts : (x y : Fraction) → x .plus * y .den ≡ y .plus * x .den → x .minus * y .den ≡ y .minus * x .den → x ≈ y
+by-parts x y p n = (record { cross = omega arith }, record { cross = omega arith })
+
+pub ⊗-distrib : (x y z : Fraction) → x ⊗ (y ⊕ z) ≈ x ⊗ y ⊕ x ⊗ z
+⊗-distrib x y z = by-parts (x ⊗ (y ⊕ z)) (x ⊗ y ⊕ x ⊗ z) (omega arith) (omega arith)
+
+pub null-⊕ : (x : Fraction) → null ⊕ x ≈ x
+null-⊕ x = (omega arith, omega arith)
+
+pub ⊖-self : (x : Fraction) → x ⊖ x ≈ null
+⊖-self x = (omega arith, omega arith)
+
+pub ⊕-⊖ : (x y : Fraction) → x ⊕ y ⊖ y ≈ x
+⊕-⊖ x y = (record { cross = omega arith }, record { cross = omega arith })
+
+pub ⊕-cancel : {x y : Fraction} (z : Fraction) → x ⊕ z ≼ y ⊕ z → x ≼ y
+⊕-cancel {x} {y} z h = ≼-trans (⊕-⊖ x z .1) (≼-trans (⊕-mono h (≼-refl (opp z))) (⊕-⊖ y z .0))
+
+pub ⊗-null : (x : Fraction) → x ⊗ null ≈ null
+⊗-null x = (omega arith, omega arith)
+
+pub ⊕-right-comm : (x y z : Fraction) → x ⊕ y ⊕ z ≈ x ⊕ z ⊕ y
+⊕-right-comm x y z = by-parts (x ⊕ y ⊕ z) (x ⊕ z ⊕ y) (omega arith) (omega arith)
+
+pub ⊕-interchange : (a b c d : Fraction) → a ⊕ b ⊕ (c ⊕ d) ≈ a ⊕ c ⊕ (b ⊕ d)
+⊕-interchange a b c d = by-parts (a ⊕ b ⊕ (c ⊕ d)) (a ⊕ c ⊕ (b ⊕ d)) (omega arith) (omega arith)

@@ -17,3 +17,11 @@ pub mod Agreement
 pub mod Failures
 pub mod Rows
 pub mod Example
+pub mod Distance
+pub mod RoundingError
+pub mod Approximation
+pub mod Horner
+pub mod PartialSums
+pub mod Series
+pub mod ExpReduction
+pub mod LnReduction

@@ -94,12 +94,12 @@ under-zero f true a c C = rw (round-neg f a c) (unfold neg in neg-le (fin false 
 under-zero f false a c C = rw (round-neg f a c) (unfold neg in neg-le (fin true 0 (pos 0)) (round f false a c) (over-zero f true a c C))
 
 -- ---- it keeps the order
-data Side (a b : ℕ) : Type 0 where
+pub data Side (a b : ℕ) : Type 0 where
   less : a < b → Side a b
   same : b ≡ a → Side a b
   more : b < a → Side a b
 
-side : (a b : ℕ) → Side a b
+pub side : (a b : ℕ) → Side a b
 side a b = go (ltb a b) (ltb b a) (ltb→lt a b) (nltb→le a b) (ltb→lt b a) (nltb→le b a)
   where
     go : (s t : Bool) → (T s → a < b) → (T (not s) → b ≤ a) → (T t → b < a) → (T (not t) → a ≤ b) → Side a b

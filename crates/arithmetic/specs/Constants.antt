@@ -100,7 +100,7 @@ abbrev from1To : ℕ → (ℕ → Float) → List Float
 from1To zero f = []
 from1To (suc n) f = f 1 ∷ from1To n (λ k. f (suc k))
 
-abbrev factorial : ℕ → ℕ
+abbrev pub factorial : ℕ → ℕ
 factorial zero = 1
 factorial (suc n) = suc n * factorial n
 

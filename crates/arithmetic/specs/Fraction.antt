@@ -1,4 +1,4 @@
--- Exact fractions: numbers, order, operations and tests. `plus`, `minus` and `den` stand for (plus - minus) / den. A fraction is not reduced, and one number has many.
+-- Exact fractions: numbers, order, operations, distances and tests. `plus`, `minus` and `den` stand for (plus - minus) / den. A fraction is not reduced, and one number has many.
 -- The order is by cross-multiplication, with what is taken off moved to the other side, so that all is in the natural numbers and no sign is looked at.
 -- Definitions only; the laws are in proofs/Fraction.antt.
 use Prim.Native.Nat.{ℕ, suc, _+_, _-_, _*_, _≤_, _<_, max}
@@ -59,6 +59,10 @@ x ⊕ y = record {
 abbrev pub opp : Fraction → Fraction
 opp x = record { plus = x .minus; minus = x .plus; den = x .den; above = x .above }
 
+infixl 6 _⊖_
+abbrev pub _⊖_ : Fraction → Fraction → Fraction
+x ⊖ y = x ⊕ opp y
+
 infixl 7 _⊗_
 abbrev pub _⊗_ : Fraction → Fraction → Fraction
 x ⊗ y = record {
@@ -83,6 +87,11 @@ recip y = record {
 infixl 7 _⊘_
 abbrev pub _⊘_ : Fraction → Fraction → Fraction
 x ⊘ y = x ⊗ recip y
+
+-- x and y are apart by at most d: x ≤ y + d and y ≤ x + d
+pub record Close (d x y : Fraction) : Type 0 where
+  pub low : x ≼ y ⊕ d
+  pub high : y ≼ x ⊕ d
 
 -- what lies from c to d does not hold zero
 abbrev pub Apart : Fraction → Fraction → Type 0

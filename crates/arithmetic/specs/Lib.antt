@@ -11,4 +11,6 @@ pub mod Recipes
 pub mod Arithmetic
 pub mod Sums
 pub mod Doubles
+pub mod Series
+pub mod Reduction
 pub mod Failures

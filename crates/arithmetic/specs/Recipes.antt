@@ -21,22 +21,37 @@ module _ (A : Basic) where
   unfoldable pub series : Value → Value
   series s = constant two * s * horner (s * s) one oddReciprocals
 
-  -- v = m × 2^e with 0.75 ≤ m < 1.5, s = (m − 1) / (m + 1): (2s) × p + e × L
+  -- s = (m − 1) / (m + 1) of ln, and s = v / (2 + v) of ln_1p
+  abbrev pub lnArgument : Value → Value
+  lnArgument m = (m - constant one) / (m + constant one)
+
+  abbrev pub ln1pArgument : Value → Value
+  ln1pArgument v = v / (constant two + v)
+
+  -- v = m × 2^e with 0.75 ≤ m < 1.5: (2s) × p + e × L
   unfoldable pub lnOf : Value → ℤ → Value
-  lnOf m e = series ((m - constant one) / (m + constant one)) + whole e * constant L
+  lnOf m e = series (lnArgument m) + whole e * constant L
 
   unfoldable pub ln : Value → Value
   ln v = step exponent v (λ e. lnOf (scale v (negℤ e)) e)
 
-  -- −0.25 ≤ v ≤ 0.25: s = v / (2 + v), then (2s) × p. Else ln (1 + v); v ≤ −1 no rule.
+  -- −0.25 ≤ v ≤ 0.25: (2s) × p. Else ln (1 + v); v ≤ −1 no rule.
   unfoldable pub ln1p : Value → Value
   ln1p v =
       test (below minusQuarter) v (test (above minusOne) v (ln (constant one + v)) none)
-      (test (above quarter) v (ln (constant one + v)) (series (v / (constant two + v))))
+      (test (above quarter) v (ln (constant one + v)) (series (ln1pArgument v)))
 
-  -- r = (v − k × H) − k × G; Horner in r over the doubles of 1 / j!, times 2^k
+  -- r = (v − k × H) − k × G
+  abbrev pub expArgument : Value → ℤ → Value
+  expArgument v k = v - whole k * constant H - whole k * constant G
+
+  -- Horner in r over the doubles of 1 / j!
+  abbrev pub expPolynomial : Value → Value
+  expPolynomial r = horner r one factorialReciprocals
+
+  -- the polynomial at r, times 2^k
   unfoldable pub expOf : Value → ℤ → Value
-  expOf v k = scale (horner (v - whole k * constant H - whole k * constant G) one factorialReciprocals) k
+  expOf v k = scale (expPolynomial (expArgument v k)) k
 
   -- below −700 it is +0, above 700 no rule. Else k = floor (v × E + 0.5).
   unfoldable pub exp : Value → Value

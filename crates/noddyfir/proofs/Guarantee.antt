@@ -10,13 +10,12 @@ use lib.Ieee.{Float}
 use lib.Ieee.Scale.{finite}
 use Rattle.arithmetic.specs.Arithmetic.{Arithmetic}
 use Rattle.arithmetic.specs.Doubles.{doubles}
-use Rattle.arithmetic.specs.Fraction.{Fraction, _≼_}
 use Rattle.arithmetic.specs.Value.{value, Within}
 use Rattle.arithmetic.proofs.Both.{Both, bothOf, Kept}
-use Rattle.arithmetic.proofs.Fraction.{⊕-mono, opp-anti}
+use Rattle.arithmetic.proofs.Distance.{both-within}
 use Rattle.range.specs.declared.basic.Range.{Range}
 use Rattle.range.specs.Rules.{ok, ranges}
-use Rattle.range.specs.Exact.{Reading, Choices, exact}
+use Rattle.range.specs.Exact.{Reading, exact}
 use Rattle.range.specs.Enclosed.{Ok, Enclosed}
 use Rattle.range.proofs.Certified.{Holds, certified, enclosed}
 use Rattle.range.proofs.Carried.{Carries, carried}
@@ -31,7 +30,7 @@ use Rattle.case_record.specs.declared.case.Case.{Case}
 use Rattle.case_record.specs.Record.{caseOf}
 use Rattle.case_record.specs.Checks.{refusalOf}
 use Rattle.noddyfir.specs.Call.{answerOf, energiesOf, finiteOr9, afterEnergies, endsOf, endsAnswerOf, okOr10}
-use Rattle.noddyfir.specs.Guarantee.{readingOf, less, ReadingHeld, EnergyHeld, EndsHold}
+use Rattle.noddyfir.specs.Guarantee.{readingOf, EnergyHeld, EndsHold}
 use Rattle.noddyfir.proofs.Answers.{accepted, passed}
 
 -- the three energies of a case in any arithmetic
@@ -51,10 +50,6 @@ module _ (A B : Arithmetic) (R : A .Value → B .Value → Type 0) (K : Kept A B
       record { temperature = bothOf R (K .constant (s .temperature)); partial-density = sent (s .«partial_density»); molefracs = sent (s .molefracs) } (c .perturbation)
 
 -- ---- one energy: its range r is ok
--- two numbers between l and u are apart by at most u less l
-apart : {l u p q : Fraction} → p ≼ u → l ≼ q → less p q ≼ less u l
-apart h k = ⊕-mono h (opp-anti k)
-
 module _ {r : Range} {d : Float} {x : Reading} (holds : Holds d x) (carries : Carries r x) (ok-r : Ok r) where
   encloses : Enclosed d x
   encloses = enclosed holds (subst Ok (carries .is) ok-r)
@@ -68,7 +63,7 @@ module _ {r : Range} {d : Float} {x : Reading} (holds : Holds d x) (carries : Ca
         every-reading = λ c.
             let q = e .reads c in
             let between : Within (r .lower) (r .upper) (q .result) = subst (λ (s : Range). Within (s .lower) (s .upper) (q .result)) (sym (carries .is)) (q .between) in
-            record { q = q .result; has-result = q .is; between = between; above = apart (near .high) (between .low); below = apart (between .high) (near .low) };
+            record { q = q .result; has-result = q .is; between = between; close = both-within (near .low) (near .high) (between .low) (between .high) };
       }
 
 -- ---- what a result says

@@ -4,7 +4,7 @@ use mathlib.Core.Path.{_≡_}
 use mathlib.Core.List.{List}
 use mathlib.Core.Option.{Option, some}
 use lib.Ieee.{Float}
-use Rattle.arithmetic.specs.Fraction.{Fraction, _⊕_, opp, _≼_}
+use Rattle.arithmetic.specs.Fraction.{Fraction, _⊖_, Close}
 use Rattle.arithmetic.specs.Value.{value, Within}
 use Rattle.range.specs.declared.basic.Range.{Range}
 use Rattle.range.specs.Exact.{Choices, Reading, exact}
@@ -21,18 +21,13 @@ use Rattle.noddyfir.specs.Call.{answerOf}
 abbrev pub readingOf : Case → Contributions Reading
 readingOf c = residual-helmholtz-energy-contributions exact (c .perturbation) (parameters exact (c .mixture)) (state exact (c .state))
 
--- p less q
-abbrev pub less : Fraction → Fraction → Fraction
-less p q = p ⊕ opp q
-
--- of the ends and the ported value of one energy, and a reading of it: the reading has a result q; it lies between the ends; and it and the ported value, the one less the other
--- either way, are apart by at most upper less lower
+-- of the ends and the ported value of one energy, and a reading of it: the reading has a result q; it lies between the ends; and the ported value and q are apart by at most upper less
+-- lower
 pub record ReadingHeld (ends : Range) (ported : Float) (reading : Option Fraction) : Type 0 where
   pub q : Fraction
   pub has-result : reading ≡ some q
   pub between : Within (ends .lower) (ends .upper) q
-  pub above : less (value ported) q ≼ less (value (ends .upper)) (value (ends .lower))
-  pub below : less q (value ported) ≼ less (value (ends .upper)) (value (ends .lower))
+  pub close : Close (value (ends .upper) ⊖ value (ends .lower)) (value ported) q
 
 pub record EnergyHeld (ends : Range) (ported : Float) (reading : Reading) : Type 0 where
   pub between : Within (ends .lower) (ends .upper) (value ported)

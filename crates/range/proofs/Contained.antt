@@ -15,7 +15,8 @@ use Rattle.arithmetic.specs.Fraction.{Fraction, _≼_, null, opp}
 use Rattle.arithmetic.specs.Value.{value, Within}
 use Rattle.arithmetic.specs.Constants.{zeroD}
 use Rattle.arithmetic.specs.Doubles.{checked, strict}
-use Rattle.arithmetic.proofs.Fraction.{≼-refl, ≼-trans, opp-anti}
+use Rattle.arithmetic.proofs.Agreement.{checked-is}
+use Rattle.arithmetic.proofs.Fraction.{_≈_, ≈-trans, ≼-refl, ≼-trans, opp-anti}
 use Rattle.arithmetic.proofs.Rounding.{value-neg, finite-neg}
 use Rattle.arithmetic.proofs.Zero.{is-zero}
 use Rattle.arithmetic.proofs.Exact.{rounded-fits}
@@ -25,7 +26,7 @@ use Rattle.range.specs.Rules.{range, failed, zero, ok, isZero, plusZero,
 use Rattle.range.specs.Rules as Rules
 use Rattle.range.specs.Exact.{bind, bind₂, fractions}
 use Rattle.range.specs.Enclosed.{Ok}
-use Rattle.range.proofs.Corners.{_≈_, ≈-trans, In, OfDoubles, lower-finite, upper-finite}
+use Rattle.range.proofs.Corners.{In, OfDoubles, lower-finite, upper-finite}
 
 -- d is a finite double and q a number, both between the ends of r, which are doubles
 pub record Certain (d : Float) (r : Range) (q : Fraction) : Type 0 where
@@ -118,11 +119,6 @@ plus-zero-value x f = go (eq x zeroD) refl
     go false e = (≼-refl (value x), ≼-refl (value x))
 
 -- ---- ends
-pub checked-is : (x : Float) → T (finite x) → checked x ≡ x
-checked-is nan p = absurd p
-checked-is (inf s) p = absurd p
-checked-is (fin s m e) p = refl
-
 -- h is finite, and a number between l and u
 abbrev pub Between : Float → Float → Float → Type 0
 Between l u h = T (finite h) × Within l u (value h)

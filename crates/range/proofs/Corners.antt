@@ -9,21 +9,13 @@ use lib.Ieee.Scale.{finite}
 use Rattle.arithmetic.specs.Fraction.{Fraction, _≼_, _⊕_, _⊗_, _⊘_, Apart}
 use Rattle.arithmetic.specs.Value.{value, Within}
 use Rattle.arithmetic.specs.Next.{nextUp, nextDown}
-use Rattle.arithmetic.proofs.Fraction.{≼-refl, ≼-trans, ≼-or-≻, ≺→≼, ⊕-mono, apart-at, product-least, product-greatest, quotient-least, quotient-greatest}
+use Rattle.arithmetic.proofs.Fraction.{_≈_, ≼-refl, ≼-trans, ≼-or-≻, ≺→≼, ⊕-mono, apart-at, product-least, product-greatest, quotient-least, quotient-greatest}
 use Rattle.arithmetic.proofs.Value.{≼→le, ≺→lt, lt→le, le-trans}
 use Rattle.arithmetic.proofs.Next.{nextUp-fits, nextDown-fits, nextUp-lt, nextDown-lt}
 use Rattle.arithmetic.proofs.Enclosure.{Rounds, real, low-end, high-end, add-rounds, mul-rounds, div-rounds}
 use Rattle.range.specs.declared.basic.Range.{Range}
 use Rattle.range.specs.Rules.{before, after, least, greatest}
 use Rattle.range.specs.Enclosed.{Ok}
-
--- ---- two fractions are one number
-infix 4 _≈_
-abbrev pub _≈_ : Fraction → Fraction → Type 0
-x ≈ y = (x ≼ y) × (y ≼ x)
-
-pub ≈-trans : {x y z : Fraction} → x ≈ y → y ≈ z → x ≈ z
-≈-trans h k = (≼-trans (h .0) (k .0), ≼-trans (k .1) (h .1))
 
 -- ---- what lies between the ends of a range
 abbrev pub In : Range → Fraction → Type 0

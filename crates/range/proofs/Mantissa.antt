@@ -16,13 +16,13 @@ use Rattle.arithmetic.specs.Value.{value}
 use Rattle.arithmetic.specs.Cases.{exponentOf}
 use Rattle.arithmetic.specs.Constants.{zeroD}
 use Rattle.arithmetic.specs.Doubles.{scaled}
-use Rattle.arithmetic.proofs.Fraction.{≼-trans, ≺-≼-trans, ≼-≺-trans, ≺-not-≼, ≺-irrefl}
+use Rattle.arithmetic.proofs.Fraction.{_≈_, ≼-trans, ≺-≼-trans, ≼-≺-trans, ≺-not-≼, ≺-irrefl}
 use Rattle.arithmetic.proofs.Value.{le→≼}
 use Rattle.arithmetic.proofs.Tests.{not-at-least}
 use Rattle.arithmetic.proofs.Cases.{exponent-none}
 use Rattle.range.specs.declared.basic.Range.{Range}
 use Rattle.range.specs.Rules.{range, ok, ends, kept, scale}
-use Rattle.range.proofs.Corners.{_≈_, lower-finite, upper-finite}
+use Rattle.range.proofs.Corners.{lower-finite, upper-finite}
 use Rattle.range.proofs.Contained.{zero-is, zero-value, zero-number}
 use Rattle.range.proofs.PowersOfTwo.{power, kept-exact}
 use Rattle.range.proofs.Testing.{has-ends}

@@ -14,7 +14,7 @@ use Rattle.arithmetic.specs.Fraction.{Fraction, _≺_, null, _⊕_, _⊗_, _⊘
 use Rattle.arithmetic.specs.Value.{value, Within}
 use Rattle.arithmetic.specs.Constants.{zeroD}
 use Rattle.arithmetic.specs.Doubles.{checked, strict}
-use Rattle.arithmetic.proofs.Fraction.{≼-refl, ≼-trans, ≼-≺-trans, ≺-≼-trans, ⊕-mono, ⊗-swap, apart-at}
+use Rattle.arithmetic.proofs.Fraction.{_≈_, ≈-trans, ≼-refl, ≼-trans, ≼-≺-trans, ≺-≼-trans, ⊕-mono, ⊗-swap, apart-at}
 use Rattle.arithmetic.proofs.Value.{lt→≺}
 use Rattle.arithmetic.proofs.Agreement.{of-add}
 use Rattle.arithmetic.proofs.Enclosure.{Rounds, add-rounds, mul-rounds, div-rounds}
@@ -23,7 +23,7 @@ use Rattle.range.specs.Rules.{failed, isZero, apart, before, after, outw
 use Rattle.range.specs.Rules as Rules
 use Rattle.range.specs.Exact.{quotient, fractions}
 use Rattle.range.specs.Enclosed.{Ok}
-use Rattle.range.proofs.Corners.{_≈_, ≈-trans, In, OfDoubles, one-number, lower-finite, upper-finite, before-fits, after-fits, lowest, highest, sum-within, product-within, quotient-within}
+use Rattle.range.proofs.Corners.{In, OfDoubles, one-number, lower-finite, upper-finite, before-fits, after-fits, lowest, highest, sum-within, product-within, quotient-within}
 use Rattle.range.proofs.Contained.{Certain, CertainOf, Contained, given₂-contained, zero-is, zero-number, zero-doubles, zero-ok, zero-in, in-zero, rounded-range-certain, rounded-ends-certain, neg-contained}
 
 -- ---- with a zero

@@ -25,7 +25,8 @@ use Rattle.range.specs.Rules.{range, failed, zero, ok, isZero, outwards,
 use Rattle.range.specs.Rules as Rules
 use Rattle.range.specs.Enclosed.{Ok}
 use Rattle.range.proofs.Corners.{In, AtEnds, lowest, highest, before-fits, after-fits, low-corners, high-corners, product-ends}
-use Rattle.range.proofs.Contained.{Certain, Contained, zero-doubles, zero-ok, zero-value, in-zero, checked-is, rounded-range-certain, rounded-ends-certain, constant-contained}
+use Rattle.arithmetic.proofs.Agreement.{checked-is}
+use Rattle.range.proofs.Contained.{Certain, Contained, zero-doubles, zero-ok, zero-value, in-zero, rounded-range-certain, rounded-ends-certain, constant-contained}
 use Rattle.range.proofs.Operations.{zero-times, add-contained}
 use Rattle.range.proofs.Testing.{has-ends, one-step, two-steps}
 

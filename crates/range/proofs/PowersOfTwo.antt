@@ -16,7 +16,7 @@ use Rattle.arithmetic.specs.Fraction.{Fraction, _≼_, _≺_, opp, twoTo, _⊗_
 use Rattle.arithmetic.specs.Value.{value, sign}
 use Rattle.arithmetic.specs.Rounding.{rounded}
 use Rattle.arithmetic.specs.Doubles.{scaled}
-use Rattle.arithmetic.proofs.Fraction.{≼-trans, ≼-or-≻, ≺-not-≼, ⊗-mono, ⊗-swap}
+use Rattle.arithmetic.proofs.Fraction.{_≈_, ≈-trans, ≼-trans, ≼-or-≻, ≺-not-≼, ⊗-mono, ⊗-swap}
 use Rattle.arithmetic.proofs.Value.{value-is, le→≼, ≼→le, lt→≺, finite-between}
 use Rattle.arithmetic.proofs.Rounding.{rounded-mono, mul-is}
 use Rattle.arithmetic.proofs.Next.{not-le-inf, not-inf-le}
@@ -24,7 +24,6 @@ use Rattle.arithmetic.proofs.Significand.{in-units}
 use Rattle.arithmetic.proofs.Enclosure.{under-rounded, over-rounded}
 use Rattle.arithmetic.proofs.Exact.{up-neg, down-neg}
 use Rattle.range.specs.Rules.{kept}
-use Rattle.range.proofs.Corners.{_≈_, ≈-trans}
 
 -- 2^k, as the double times which a double is scaled
 abbrev pub power : ℤ → Fraction

@@ -16,7 +16,7 @@ use Rattle.arithmetic.specs.Value.{value, Within}
 use Rattle.arithmetic.specs.Constants.{zeroD}
 use Rattle.arithmetic.specs.Doubles.{checked}
 use Rattle.arithmetic.specs.Root as Root
-use Rattle.arithmetic.proofs.Fraction.{≼-refl, ≼-trans, ≺-≼-trans, ≼-or-≻, ≺→≼, ≺-not-≼, ≺?-no, was-no, ⊗-mono}
+use Rattle.arithmetic.proofs.Fraction.{_≈_, ≼-refl, ≼-trans, ≺-≼-trans, ≼-or-≻, ≺→≼, ≺-not-≼, ≺?-no, was-no, ⊗-mono}
 use Rattle.arithmetic.proofs.Tests.{not-below}
 use Rattle.arithmetic.proofs.Nearest.{Nearest, BelowRoot, AboveRoot, middle, square-mono, sqrt-nearest}
 use Rattle.arithmetic.proofs.Exact.{zero-fits}
@@ -25,7 +25,7 @@ use Rattle.range.specs.Rules.{failed, ok, isZero, before, after, outward
 use Rattle.range.specs.Rules as Rules
 use Rattle.range.specs.Exact.{chosen, rootBy}
 use Rattle.range.specs.Enclosed.{Ok}
-use Rattle.range.proofs.Corners.{_≈_, In, lower-finite, upper-finite, before-fits, after-fits, before-below, after-above}
+use Rattle.range.proofs.Corners.{In, lower-finite, upper-finite, before-fits, after-fits, before-below, after-above}
 use Rattle.range.proofs.Contained.{Certain, CertainOf, Contained, zero-is, zero-number, zero-doubles, zero-in, in-zero, range-certain, ends-certain}
 
 -- ---- the root of a double that is not below zero
