@@ -12,7 +12,7 @@ use Rattle.arithmetic.specs.Basic.{Basic, Limit, Step, passes, pick}
 use Rattle.arithmetic.specs.Root.{sqrt}
 use Rattle.arithmetic.specs.Arithmetic.{Arithmetic}
 use Rattle.arithmetic.specs.Doubles.{checked, quotient, tested, stepped, orNan, strict, plain, doubles, guarded}
-use Rattle.arithmetic.proofs.Both.{Both, bothOf, BasicKept, basicBoth, Kept, both, over-kept}
+use Rattle.arithmetic.proofs.Both.{Both, BasicKept, basicBoth, Kept, both, over-kept}
 
 -- the strict value d is the code's value g, checked
 pub record Same (g d : Float) : Type 0 where

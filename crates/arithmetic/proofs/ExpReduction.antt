@@ -1,31 +1,29 @@
 -- The r of exp stays within 0.35: k is v × E rounded to a whole number, and H + G times E is 1 but for less than 2^−50.
 use Prim.Native.Nat.{zero, suc}
 use native.Mathlib.Omega.{arith}
-use mathlib.Core.Path.{_≡_, refl, sym, subst, _∙_}
-use mathlib.Core.Bool.{Bool, true, false, cond}
+use mathlib.Core.Path.{_≡_, refl, subst}
 use lib.IntN.{ℤ, pos, negsuc, sucℤ}
 use lib.Dec.{T, le→leb, lt→ltb}
 use lib.Ieee.{Float, binary64, ofBits, inFloat, neg}
 use lib.Ieee.Scale.{finite}
 use lib.Ieee.Bits.{is-true}
-use Rattle.arithmetic.specs.Fraction.{Fraction, _≼_, _≺_, _≺?_, null, one, whole, twoTo, _⊕_, opp, _⊖_, _⊗_, _⊘_, Close}
+use Rattle.arithmetic.specs.Fraction.{Fraction, _≼_, null, one, whole, twoTo, _⊕_, opp, _⊖_, _⊗_, _⊘_, Close}
 use Rattle.arithmetic.specs.Value.{value}
 use Rattle.arithmetic.specs.Cases.{floorOf}
 use Rattle.arithmetic.specs.Constants as Constants
 use Rattle.arithmetic.specs.Constants.{E, H, G, sevenHundred, minusSevenHundred}
-use Rattle.arithmetic.specs.Basic.{below, above, passes}
 use Rattle.arithmetic.specs.Recipes.{expArgument, expPolynomial, exp, expOf}
-use Rattle.arithmetic.specs.Doubles.{strict, plain, whereFinite}
+use Rattle.arithmetic.specs.Doubles.{strict, plain}
 use Rattle.arithmetic.specs.Series.{Bounded, expLimit}
-use Rattle.arithmetic.specs.Reduction.{expStep, reduced, ExpReduction, ExpReduces}
+use Rattle.arithmetic.specs.Reduction.{expStep, expReduced, ExpReduces}
 use Rattle.arithmetic.proofs.Fraction.{≼-refl, ≼-trans, ≺→≼, ≺?-no, was-no, _≈_, ≈-refl, ≈-sym, ≈-trans, opp-anti, ⊕-mono, ⊕-cong, ⊕-assoc, ⊕-⊖, ⊗-assoc, ⊗-distrib}
-use Rattle.arithmetic.proofs.Cases.{In, floor-in}
+use Rattle.arithmetic.proofs.Cases.{floor-in}
 use Rattle.arithmetic.proofs.Agreement.{agreedBasic, agreeing, in-code}
-use Rattle.arithmetic.proofs.Distance.{close-sym, close-at, close-within, close-trans, close-plus, close-difference, close-scale, close-scale-right, bound-times, at-most-bound, opposite-at-most-bound, test-close, close?}
-use Rattle.arithmetic.proofs.Approximation.{Approximation, itself, loosened, approximation?, test-approximation, whole-itself, sum, difference, product}
+use Rattle.arithmetic.proofs.Distance.{close-sym, close-at, close-within, close-trans, close-plus, close-difference, close-scale, close-scale-right, bound-times, at-most-bound, opposite-at-most-bound, test-close}
+use Rattle.arithmetic.proofs.Approximation.{Approximation, itself, loosened, test-approximation, whole-itself, sum, difference, product}
 use Rattle.arithmetic.proofs.Series.{exp-near-series-in-code}
 
--- ---- a floor is at most 1/2 from what is 1/2 less
+-- ---- t is within 1/2 of its floor and 1/2
 abbrev oneHalf : Fraction
 oneHalf = whole (pos 1) ⊘ whole (pos 2)
 
@@ -133,7 +131,7 @@ module _ (v : Float) (h : Bounded expRange v) where
       let w = whole-itself k (in-float k step-bound) step-bound in
       loosened _ _ (difference 1032 tt (difference 1032 tt (itself h) (product 1031 tt w H-is refl) refl) (product 1031 tt w G-is refl) refl) refl refl
 
-  -- v is v × (E × (H + G)), nearly, and that is k × (H + G), but for half of it
+  -- v is nearly v × E × (H + G), and that is within 1/2 × (H + G), nearly, of k × (H + G)
   argument-near : Close (expRange ⊗ twoTo (negsuc 49) ⊕ boundH ⊗ (twoTo (negsuc 42) ⊕ oneHalf)) (value v) (whole k ⊗ parts)
   argument-near =
       close-trans (close-at (times-one (value v)) (≈-sym (⊗-assoc (value v) (value E) parts)) (close-scale (value v) (h .bound) inverse))
@@ -145,7 +143,7 @@ module _ (v : Float) (h : Bounded expRange v) where
   strict-bounded : Bounded expLimit (expArgument strict v k)
   strict-bounded = record { number = reduced-near .number; bound = close-within (was-no expLimit _ refl) (close-trans (reduced-near .close) exact-bound) }
 
-  code-bounded : Bounded expLimit (reduced v)
+  code-bounded : Bounded expLimit (expReduced v)
   code-bounded = subst (Bounded expLimit) (in-code (expArgument agreedBasic (agreeing v (h .number)) k) (strict-bounded .number)) strict-bounded
 
   within-low : value minusSevenHundred ≼ value v
@@ -157,9 +155,9 @@ module _ (v : Float) (h : Bounded expRange v) where
   within-high = omega (arith, at-most-bound (h .bound))
 
   -- ---- the recipe works the polynomial there
-  recipe : exp plain v ≡ plain .scale (expPolynomial plain (reduced v)) k
+  recipe : exp plain v ≡ plain .scale (expPolynomial plain (expReduced v)) k
   unfolding exp expOf
   recipe = rw (is-true (finite v) (h .number), ≺?-no within-low, ≺?-no within-high, is-true (finite place) (place-near .number)) refl
 
 pub exp-reduces : ExpReduces
-exp-reduces v h = record { is = recipe v h; argument = code-bounded v h; near = exp-near-series-in-code (reduced v) (code-bounded v h) }
+exp-reduces v h = record { is = recipe v h; argument = code-bounded v h; near = exp-near-series-in-code (expReduced v) (code-bounded v h) }

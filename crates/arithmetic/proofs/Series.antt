@@ -17,7 +17,7 @@ use Rattle.arithmetic.specs.Series.{power, partialSum, expTerm, lnTerm, 
 use Rattle.arithmetic.proofs.Fraction.{was-no, _≈_, ≈-refl, ≈-sym, ≈-trans, ⊗-cong, ⊗-cong-right, ⊗-assoc}
 use Rattle.arithmetic.proofs.Agreement.{agreedBasic, agreeing, in-code}
 use Rattle.arithmetic.proofs.Distance.{close-at, close-within, close-trans, close-scale, bound-times, test-close}
-use Rattle.arithmetic.proofs.Approximation.{Approximation, itself, loosened, approximation?, test-approximation, product}
+use Rattle.arithmetic.proofs.Approximation.{Approximation, itself, loosened, test-approximation, product}
 use Rattle.arithmetic.proofs.Horner.{exactHorner, remainder, truncated, Polynomial, coefficients?, horner-close}
 use Rattle.arithmetic.proofs.PartialSums.{sum-is, one-times, power-next, factorialTerm, oddTerm, reciprocal-bound, factorial-pos, factorial-from}
 
@@ -68,12 +68,12 @@ exp-near-series r h =
     }
 
 -- ---- ln
-abbrev double : Fraction
-double = whole (pos 2)
+abbrev pub two : Fraction
+two = whole (pos 2)
 
-two-is : T (approximation? null double (strict .constant Constants.two) double)
+pub two-is : Approximation null two (strict .constant Constants.two) two
 unfolding ofBits
-two-is = tt
+two-is = test-approximation null two (strict .constant Constants.two) two tt
 
 module _ (s : Float) (h : Bounded lnLimit s) where
   abbrev square : Fraction
@@ -84,14 +84,14 @@ module _ (s : Float) (h : Bounded lnLimit s) where
   unfolding ofBits
   ln-polynomial = horner-close (loosened _ expLimit (product 1017 tt (itself h) (itself h) refl) refl refl) oddTerm Constants.one oddReciprocals odds
 
-  ln-series : Approximation (twoTo (negsuc 50)) one (series strict s) (double ⊗ value s ⊗ exactHorner square oddTerm 13)
+  ln-series : Approximation (twoTo (negsuc 50)) one (series strict s) (two ⊗ value s ⊗ exactHorner square oddTerm 13)
   unfolding series ofBits
-  ln-series = loosened _ _ (product 1021 tt (product 1020 tt (test-approximation null double (strict .constant Constants.two) double two-is) (itself h) refl) ln-polynomial refl) refl refl
+  ln-series = loosened _ _ (product 1021 tt (product 1020 tt two-is (itself h) refl) ln-polynomial refl) refl refl
 
-  ln-remainder : (k : ℕ) → Close (remainder (lnLimit ⊗ lnLimit) double 13) (exactHorner square oddTerm 13) (exactHorner square oddTerm (13 + k))
+  ln-remainder : (k : ℕ) → Close (remainder (lnLimit ⊗ lnLimit) two 13) (exactHorner square oddTerm 13) (exactHorner square oddTerm (13 + k))
   unfolding ofBits
   ln-remainder =
-      truncated square (lnLimit ⊗ lnLimit) one double (bound-times (h .bound) (h .bound)) (was-no double null refl) (was-no double (double ⊗ (lnLimit ⊗ lnLimit) ⊕ one) refl)
+      truncated square (lnLimit ⊗ lnLimit) one two (bound-times (h .bound) (h .bound)) (was-no two null refl) (was-no two (two ⊗ (lnLimit ⊗ lnLimit) ⊕ one) refl)
       13 oddTerm (λ j. reciprocal-bound (2 * (13 + j) + 1) 1 (one .above) (omega arith))
 
   two-more : (k : ℕ) → power (value s) (2 * suc k + 1) ≈ power (value s) (2 * k + 1) ⊗ square
@@ -99,12 +99,12 @@ module _ (s : Float) (h : Bounded lnLimit s) where
       subst (λ (n : ℕ). power (value s) n ≈ power (value s) (2 * k + 1) ⊗ square) (omega arith)
       (≈-trans (power-next (value s) (suc (2 * k + 1))) (≈-trans (⊗-cong (power-next (value s) (2 * k + 1)) (≈-refl (value s))) (⊗-assoc (power (value s) (2 * k + 1)) (value s) (value s))))
 
-  ln-sum : (m : ℕ) → double ⊗ value s ⊗ exactHorner square oddTerm m ≈ partialSum (lnTerm (value s)) m
+  ln-sum : (m : ℕ) → two ⊗ value s ⊗ exactHorner square oddTerm m ≈ partialSum (lnTerm (value s)) m
   unfolding powerBy
-  ln-sum m = ≈-sym (sum-is square (λ k. double ⊗ power (value s) (2 * k + 1)) oddTerm (λ k. ≈-trans (⊗-cong-right double (two-more k)) (≈-sym (⊗-assoc double (power (value s) (2 * k + 1)) square))) m)
+  ln-sum m = ≈-sym (sum-is square (λ k. two ⊗ power (value s) (2 * k + 1)) oddTerm (λ k. ≈-trans (⊗-cong-right two (two-more k)) (≈-sym (⊗-assoc two (power (value s) (2 * k + 1)) square))) m)
 
-  doubled-bound : Close (double ⊗ lnLimit) (double ⊗ value s) null
-  doubled-bound = bound-times (test-close double double null tt) (h .bound)
+  doubled-bound : Close (two ⊗ lnLimit) (two ⊗ value s) null
+  doubled-bound = bound-times (test-close two two null tt) (h .bound)
 
 pub ln-near-series : LnNearSeries (series strict)
 unfolding ofBits
@@ -113,7 +113,7 @@ ln-near-series s h =
     record {
       number = p .number;
       close = from-on (λ m. Close tolerance (value (series strict s)) (partialSum (lnTerm (value s)) m)) 13
-          (λ k. close-within (was-no tolerance _ refl) (close-at (≈-refl _) (ln-sum s h (13 + k)) (close-trans (p .close) (close-scale (double ⊗ value s) (doubled-bound s h) (ln-remainder s h k)))));
+          (λ k. close-within (was-no tolerance _ refl) (close-at (≈-refl _) (ln-sum s h (13 + k)) (close-trans (p .close) (close-scale (two ⊗ value s) (doubled-bound s h) (ln-remainder s h k)))));
     }
 
 -- ---- the code's operations give the same doubles

@@ -6,7 +6,7 @@ use lib.IntN.{ℤ, pos, negℤ}
 use lib.Dec.{T}
 use lib.Ieee.{Float}
 use lib.Ieee.Scale.{finite}
-use Rattle.arithmetic.specs.Fraction.{Fraction, _≺_, null, whole, _⊘_}
+use Rattle.arithmetic.specs.Fraction.{_≺_, null, whole, _⊘_}
 use Rattle.arithmetic.specs.Value.{value}
 use Rattle.arithmetic.specs.Cases.{exponentOf, floorOf}
 use Rattle.arithmetic.specs.Constants.{half, E, L}
@@ -19,13 +19,13 @@ module _ (v : Float) where
   abbrev pub expStep : ℤ
   expStep = floorOf (value (plain .add (plain .mul v E) half))
 
-  abbrev pub reduced : Float
-  reduced = expArgument plain v expStep
+  abbrev pub expReduced : Float
+  expReduced = expArgument plain v expStep
 
   pub record ExpReduction : Type 0 where
-    pub is : exp plain v ≡ plain .scale (expPolynomial plain reduced) expStep
-    pub argument : Bounded expLimit reduced
-    pub near : NearSeries (expPolynomial plain reduced) (expTerm (value reduced)) 14
+    pub is : exp plain v ≡ plain .scale (expPolynomial plain expReduced) expStep
+    pub argument : Bounded expLimit expReduced
+    pub near : NearSeries (expPolynomial plain expReduced) (expTerm (value expReduced)) 14
 
 abbrev pub ExpReduces : Type 0
 ExpReduces = (v : Float) → Bounded (whole (pos 700)) v → ExpReduction v

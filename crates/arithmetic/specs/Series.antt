@@ -42,10 +42,13 @@ pub record Bounded (b : Fraction) (x : Float) : Type 0 where
 abbrev pub expLimit : Fraction
 expLimit = whole (pos 35) ⊘ whole (pos 100)
 
-abbrev pub lnLimit : Fraction
-lnLimit = value (bits 0x3FC999999999999A)
+abbrev pub fifth : Float
+fifth = bits 0x3FC999999999999A
 
-limits-are : ((expLimit ≺? value (round binary64 false 35 100)) ≡ false) × (lnLimit ≡ value (round binary64 false 2 10)) × ((lnLimit ≺? whole (pos 2) ⊘ whole (pos 10)) ≡ false)
+abbrev pub lnLimit : Fraction
+lnLimit = value fifth
+
+limits-are : ((expLimit ≺? value (round binary64 false 35 100)) ≡ false) × (fifth ≡ round binary64 false 2 10) × ((lnLimit ≺? whole (pos 2) ⊘ whole (pos 10)) ≡ false)
 unfolding round ofBits
 limits-are = (refl, refl, refl)
 
