@@ -15,7 +15,7 @@ use Rattle.arithmetic.specs.Constants.{E, H, G, sevenHundred, minusSeven
 use Rattle.arithmetic.specs.Recipes.{expArgument, expPolynomial, exp, expOf}
 use Rattle.arithmetic.specs.Doubles.{strict, plain}
 use Rattle.arithmetic.specs.Series.{Bounded, expLimit}
-use Rattle.arithmetic.specs.Reduction.{expStep, expReduced, ExpReduces}
+use Rattle.arithmetic.specs.Reduction.{expRange, expStep, expReduced, ExpReduces}
 use Rattle.arithmetic.proofs.Fraction.{≼-refl, ≼-trans, ≺→≼, ≺?-no, was-no, _≈_, ≈-refl, ≈-sym, ≈-trans, opp-anti, ⊕-mono, ⊕-cong, ⊕-assoc, ⊕-⊖, ⊗-assoc, ⊗-distrib}
 use Rattle.arithmetic.proofs.Cases.{floor-in}
 use Rattle.arithmetic.proofs.Agreement.{agreedBasic, agreeing, in-code}
@@ -42,9 +42,6 @@ floor-near t =
     record { low = ≼-trans (≺→≼ (i .high)) (≼-trans (suc-whole (floorOf t)) (halves k)); high = ⊕-mono (i .low) (≼-refl oneHalf) }
 
 -- ---- the constants
-abbrev expRange : Fraction
-expRange = whole (pos 700)
-
 half-is : Approximation null oneHalf (strict .constant Constants.half) oneHalf
 unfolding ofBits
 half-is = test-approximation null oneHalf (strict .constant Constants.half) oneHalf tt

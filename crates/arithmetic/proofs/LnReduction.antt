@@ -21,7 +21,7 @@ use Rattle.arithmetic.specs.Constants.{bits, quarter, minusQuarter}
 use Rattle.arithmetic.specs.Recipes.{series, lnArgument, ln1pArgument, lnOf, ln, ln1p}
 use Rattle.arithmetic.specs.Doubles.{strict, plain, scaled}
 use Rattle.arithmetic.specs.Series.{Bounded, fifth, lnLimit}
-use Rattle.arithmetic.specs.Reduction.{lnReduced, LnReduces, Ln1pReduces}
+use Rattle.arithmetic.specs.Reduction.{ln1pRange, lnReduced, LnReduces, Ln1pReduces}
 use Rattle.arithmetic.proofs.Fraction.{≼-refl, ≼-trans, ≺-≼-trans, ≼-or-≻, ≺?-no, was-no, was-yes, _≈_, ≈-refl, ≈-sym, ≈-trans, ⊕-mono, ⊕-cancel, ⊕-assoc, ⊗-mono, ⊗-assoc, ⊗-comm, ⊗-distrib, recip-is}
 use Rattle.arithmetic.proofs.Rounding.{value-neg}
 use Rattle.arithmetic.proofs.Next.{nextUp-least}
@@ -205,7 +205,7 @@ ln-reduces v p z =
     (e, record { exponent = i; is = ln-recipe v p e i; argument = ln-bounded v p e i; near = ln-near-series-in-code (lnReduced v e) (ln-bounded v p e i) })
 
 -- ---- ln_1p
-module _ (v : Float) (h : Bounded (whole (pos 1) ⊘ whole (pos 4)) v) where
+module _ (v : Float) (h : Bounded ln1pRange v) where
   more-two : Approximation (twoTo (negsuc 51)) (whole (pos 9) ⊘ whole (pos 4)) (strict .add (strict .constant Constants.two) v) (two ⊕ value v)
   more-two = loosened _ _ (sum 1023 tt two-is (itself h) refl) refl refl
 

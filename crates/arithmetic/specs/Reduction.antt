@@ -6,7 +6,7 @@ use lib.IntN.{ℤ, pos, negℤ}
 use lib.Dec.{T}
 use lib.Ieee.{Float}
 use lib.Ieee.Scale.{finite}
-use Rattle.arithmetic.specs.Fraction.{_≺_, null, whole, _⊘_}
+use Rattle.arithmetic.specs.Fraction.{Fraction, _≺_, null, whole, _⊘_}
 use Rattle.arithmetic.specs.Value.{value}
 use Rattle.arithmetic.specs.Cases.{exponentOf, floorOf}
 use Rattle.arithmetic.specs.Constants.{half, E, L}
@@ -27,8 +27,11 @@ module _ (v : Float) where
     pub argument : Bounded expLimit expReduced
     pub near : NearSeries (expPolynomial plain expReduced) (expTerm (value expReduced)) 14
 
+abbrev pub expRange : Fraction
+expRange = whole (pos 700)
+
 abbrev pub ExpReduces : Type 0
-ExpReduces = (v : Float) → Bounded (whole (pos 700)) v → ExpReduction v
+ExpReduces = (v : Float) → Bounded expRange v → ExpReduction v
 
 -- ---- ln, v above 0: the e of v, and s of m = v × 2^−e
 module _ (v : Float) (e : ℤ) where
@@ -50,5 +53,8 @@ pub record Ln1pReduction (v : Float) : Type 0 where
   pub argument : Bounded lnLimit (ln1pArgument plain v)
   pub near : NearSeries (series plain (ln1pArgument plain v)) (lnTerm (value (ln1pArgument plain v))) 13
 
+abbrev pub ln1pRange : Fraction
+ln1pRange = whole (pos 1) ⊘ whole (pos 4)
+
 abbrev pub Ln1pReduces : Type 0
-Ln1pReduces = (v : Float) → Bounded (whole (pos 1) ⊘ whole (pos 4)) v → Ln1pReduction v
+Ln1pReduces = (v : Float) → Bounded ln1pRange v → Ln1pReduction v
