@@ -81,7 +81,7 @@ unfolding ofBits
 inverse = test-close (twoTo (negsuc 49)) one (value E ⊗ parts) tt
 
 -- ---- k
-in-float : (k : ℤ) → Close (whole (pos 1011)) (whole k) null → T (inFloat binary64 k)
+in-float : (k : ℤ) → Close (whole (pos 1020)) (whole k) null → T (inFloat binary64 k)
 unfolding inFloat
 in-float (pos n) c = le→leb n _ (omega (arith, at-most-bound c))
 in-float (negsuc n) c = lt→ltb n _ (omega (arith, opposite-at-most-bound c))
@@ -105,10 +105,10 @@ module _ (v : Float) (h : Bounded expRange v) where
   abbrev k : ℤ
   k = expStep v
 
-  place-near : Approximation (twoTo (negsuc 42)) (whole (pos 1011)) place (exactProduct ⊕ oneHalf)
+  place-near : Approximation (twoTo (negsuc 42)) (whole (pos 1020)) place (exactProduct ⊕ oneHalf)
   place-near =
-      let p = loosened (twoTo (negsuc 42)) (whole (pos 1011)) (sum 1031 tt (product 1031 tt (itself h) E-is refl) half-is refl) refl refl in
-      subst (λ (x : Float). Approximation (twoTo (negsuc 42)) (whole (pos 1011)) x (exactProduct ⊕ oneHalf))
+      let p = loosened (twoTo (negsuc 42)) (whole (pos 1020)) (sum 1031 tt (product 1031 tt (itself h) E-is refl) half-is refl) refl refl in
+      subst (λ (x : Float). Approximation (twoTo (negsuc 42)) (whole (pos 1020)) x (exactProduct ⊕ oneHalf))
       (in-code (agreedBasic .add (agreedBasic .mul (agreeing v (h .number)) (agreedBasic .constant E)) (agreedBasic .constant Constants.half)) (p .number)) p
 
   step-near : Close (twoTo (negsuc 42) ⊕ oneHalf) exactProduct (whole k)
@@ -116,8 +116,8 @@ module _ (v : Float) (h : Bounded expRange v) where
       close-at (⊕-⊖ exactProduct oneHalf) (⊕-⊖ (whole k) oneHalf)
       (close-plus (opp oneHalf) (close-trans (close-sym (place-near .close)) (floor-near (value place))))
 
-  step-bound : Close (whole (pos 1011)) (whole k) null
-  step-bound = close-within (was-no (whole (pos 1011)) _ refl) (close-trans (close-sym step-near) (bound-times (h .bound) (E-is .bound)))
+  step-bound : Close (whole (pos 1020)) (whole k) null
+  step-bound = close-within (was-no (whole (pos 1020)) _ refl) (close-trans (close-sym step-near) (bound-times (h .bound) (E-is .bound)))
 
   -- ---- r in doubles, and exactly
   abbrev exactReduced : Fraction

@@ -3,7 +3,7 @@ use Prim.Native.Nat.{ℕ, suc, _+_, _-_, _*_, _≤_}
 use native.Mathlib.Omega.{arith}
 use mathlib.Core.Path.{refl, subst}
 use mathlib.Core.Bool.{false}
-use lib.IntN.{pos, negsuc, negℤ}
+use lib.IntN.{pos, negsuc}
 use lib.Dec.{T}
 use lib.Ieee.{Float, ofBits}
 use Rattle.arithmetic.specs.Fraction.{Fraction, null, one, whole, twoTo, _⊕_, _⊗_, Close}
@@ -13,7 +13,7 @@ use Rattle.arithmetic.specs.Constants.{factorial, factorialReciprocals, 
 use Rattle.arithmetic.specs.Recipes.{horner, series, expPolynomial}
 use Rattle.arithmetic.specs.Arithmetic.{powerBy}
 use Rattle.arithmetic.specs.Doubles.{strict, plain}
-use Rattle.arithmetic.specs.Series.{power, partialSum, expTerm, lnTerm, NearSeries, Bounded, expLimit, lnLimit, ExpNearSeries, LnNearSeries}
+use Rattle.arithmetic.specs.Series.{power, partialSum, expTerm, lnTerm, tolerance, NearSeries, Bounded, expLimit, lnLimit, ExpNearSeries, LnNearSeries}
 use Rattle.arithmetic.proofs.Fraction.{was-no, _≈_, ≈-refl, ≈-sym, ≈-trans, ⊗-cong, ⊗-cong-right, ⊗-assoc}
 use Rattle.arithmetic.proofs.Agreement.{agreedBasic, agreeing, in-code}
 use Rattle.arithmetic.proofs.Distance.{close-at, close-within, close-trans, close-scale, bound-times, test-close}
@@ -29,9 +29,6 @@ factorials = tt
 odds : T (coefficients? oddTerm Constants.one oddReciprocals)
 unfolding ofBits
 odds = tt
-
-abbrev tolerance : Fraction
-tolerance = twoTo (negℤ (pos 50))
 
 -- m terms, at least n of them
 from-on : (P : ℕ → Type 0) (n : ℕ) → ((k : ℕ) → P (n + k)) → (m : ℕ) → n ≤ m → P m

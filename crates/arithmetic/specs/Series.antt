@@ -27,10 +27,13 @@ expTerm r j = power r j ⊘ whole (pos (factorial j))
 abbrev pub lnTerm : Fraction → ℕ → Fraction
 lnTerm s k = whole (pos 2) ⊗ power s (2 * k + 1) ⊘ whole (pos (2 * k + 1))
 
+abbrev pub tolerance : Fraction
+tolerance = twoTo (negℤ (pos 50))
+
 -- p is finite, and within 2^−50 of every partial sum of f that has at least n terms
 pub record NearSeries (p : Float) (f : ℕ → Fraction) (n : ℕ) : Type 0 where
   pub number : T (finite p)
-  pub close : (m : ℕ) → n ≤ m → Close (twoTo (negℤ (pos 50))) (value p) (partialSum f m)
+  pub close : (m : ℕ) → n ≤ m → Close tolerance (value p) (partialSum f m)
 
 -- ---- the arguments
 -- x is finite, and |x| ≤ b
