@@ -8,7 +8,8 @@ use lib.Dec.{T}
 use lib.Ieee.Fits.{and-l, and-r}
 use lib.Ieee.Bits.{is-false}
 use Rattle.arithmetic.specs.Fraction.{Fraction, _≼_, _≺_, _≺?_, null, _⊕_, opp, _⊖_, _⊗_, Close}
-use Rattle.arithmetic.proofs.Fraction.{≼-refl, ≼-trans, ≺-≼-trans, ≼-≺-trans, ≼-or-≻, ≺-irrefl, ≺→≼, was-no, ⊕-mono, ⊗-mono, ⊗-anti, ⊗-swap, side, _≈_, ≈-refl, ⊕-assoc, ⊕-comm, ⊕-interchange, ⊕-right-comm, ⊗-comm, ⊗-distrib, ⊗-null, null-⊕, ⊖-self}
+use Rattle.arithmetic.proofs.Fraction.{≼-refl, ≼-trans, ≺-≼-trans, ≼-≺-trans, ≼-or-≻, ≺-irrefl, ≺→≼, was-no, ⊕-mono, ⊗-mono, ⊗-anti, ⊗-swap}
+use Rattle.arithmetic.proofs.Fraction.{side, _≈_, ≈-refl, ⊕-assoc, ⊕-comm, ⊕-interchange, ⊕-right-comm, ⊗-comm, ⊗-distrib, ⊗-null, null-⊕, ⊖-self}
 
 more : (x d : Fraction) → null ≼ d → x ≼ x ⊕ d
 more x d z = record { cross = go (x .plus) (x .minus) (x .den) (d .plus) (d .minus) (d .den) (omega (arith, z)) }

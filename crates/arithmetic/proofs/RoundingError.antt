@@ -121,9 +121,11 @@ module _ (f : Format) (k : ℕ) (reach : suc (prec f + k) ≤ low f + suc (emax 
 
       go : Side (q .plus) (q .minus) → Good (rounded f z q)
       go (less a) =
-          subst Good (sym (rounded-below f z q a))
-          (to-q (round f true (q .minus - q .plus) (q .den)) (nonpos-is q (le-of-lt a)) (round-error true (q .minus - q .plus) (q .den) (q .above) (size-under (q .minus) (q .plus) (q .den) (2 ^ low f) (2 ^ (prec f + k)) (le-of-lt a) (≼-≺-trans (opposite-at-most-bound g) l .cross))))
+          let m = q .minus - q .plus in
+          let s = size-under (q .minus) (q .plus) (q .den) (2 ^ low f) (2 ^ (prec f + k)) (le-of-lt a) (≼-≺-trans (opposite-at-most-bound g) l .cross) in
+          subst Good (sym (rounded-below f z q a)) (to-q (round f true m (q .den)) (nonpos-is q (le-of-lt a)) (round-error true m (q .den) (q .above) s))
       go (same a) = subst Good (sym (rounded-zero f z q a)) (tt, same-close (record { cross = omega arith }) (zero-is z q a))
       go (more a) =
-          subst Good (sym (rounded-over f z q a))
-          (to-q (round f false (q .plus - q .minus) (q .den)) (nonneg-is q (le-of-lt a)) (round-error false (q .plus - q .minus) (q .den) (q .above) (size-under (q .plus) (q .minus) (q .den) (2 ^ low f) (2 ^ (prec f + k)) (le-of-lt a) (≼-≺-trans (at-most-bound g) l .cross))))
+          let m = q .plus - q .minus in
+          let s = size-under (q .plus) (q .minus) (q .den) (2 ^ low f) (2 ^ (prec f + k)) (le-of-lt a) (≼-≺-trans (at-most-bound g) l .cross) in
+          subst Good (sym (rounded-over f z q a)) (to-q (round f false m (q .den)) (nonneg-is q (le-of-lt a)) (round-error false m (q .den) (q .above) s))
