@@ -2,7 +2,6 @@
 // What has no rule, and an argument that is not finite, gives NaN: no function for the formulas asks anything of its caller.
 pub mod basic;
 pub mod exponential;
-pub mod exports;
 pub mod logarithm;
 pub mod next;
 pub mod parts;

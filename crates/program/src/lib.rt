@@ -32,8 +32,12 @@ fn answer_all(with_ends: bool, input: &[u8]) {
     }
 }
 
-pub fn answer_input(with_ends: bool) {
+// Answers the records of standard input, and returns how many bytes of it were read. Which bytes, the system decides.
+pub fn answer_input(with_ends: bool) -> usize
+    ensures { λ r. ⌜ r ≤ 65536 ⌝ }
+{
     let mut input = io::large_buffer();
     let n = io::read_full(STDIN_FILENO, &mut input);
     answer_all(with_ends, &input[..n]);
+    n
 }

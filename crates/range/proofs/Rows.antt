@@ -1,5 +1,4 @@
 -- Document 01's rows of ranges, and rows that fix the rules where no law does, by computation.
--- The ends of the recipes were worked apart from these definitions too, in Python's floats, from document 01's text.
 use mathlib.Core.Path.{_≡_, refl}
 use lib.IntN.{negsuc}
 use lib.Ieee.{ofBits, toBits, round, ofInt, inFloat, fits, neg, add, mul, div, lt, eq, le}

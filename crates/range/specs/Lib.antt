@@ -2,6 +2,5 @@
 pub mod Rules
 pub mod Exact
 pub mod Enclosed
-pub mod Applied
 pub mod Positive
 pub mod Moderate

@@ -1,6 +1,5 @@
 // Ranges of doubles by document 01's rules: each method is proved to be its rule (specs/Rules.antt).
 pub mod basic;
 pub mod exponential;
-pub mod exports;
 pub mod logarithm;
 pub mod series;

@@ -1,0 +1,2 @@
+-- The methods of ranges by number.
+pub mod Applied
