@@ -23,7 +23,7 @@
  *
  * An answer: 2 bytes of length, 1 byte of version (1), 1 byte of code. Code 0 is followed by three doubles (energies)
  * or three pairs lower, upper (ends): hard sphere, reference, attractive, each divided by kT, per cubic angstrom.
- * Any other code is a refusal of four bytes.
+ * Any other code is a refusal of four bytes, also one that is not listed below: a later library may have more of them.
  */
 #ifndef NODDYFIR_H
 #define NODDYFIR_H

@@ -24,7 +24,8 @@ pub fn line(at: f64, outcome: &Outcome, refusal: Option<&str>) -> String {
     energies.resize(3, ",,,".into());
     let refusal =
         refusal.map_or(String::new(), |text| format!("\"{}\"", text.replace('"', "\"\"")));
-    format!("{at},{},{},{refusal}", outcome.code(), energies.join(","))
+    let code = outcome.code().map_or(String::new(), |code| code.to_string());
+    format!("{at},{code},{},{refusal}", energies.join(","))
 }
 
 fn cells(energy: &Energy) -> String {

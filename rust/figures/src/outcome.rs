@@ -48,7 +48,8 @@ impl Outcome {
                 let mut pairs = energies.named().into_iter().zip(ends.all());
                 pairs.find_map(outside).map_or(Ok(()), |text| Err(Failure::contradiction(text)))
             }
-            (Ok(_), Err(Refusal::Ends)) => Ok(()),
+            // What a code that is not known says of energies without ends is not known either.
+            (Ok(_), Err(Refusal::Ends | Refusal::Unknown(_))) => Ok(()),
             (Err(energies), Err(ends)) if energies == ends => Ok(()),
             (energies, ends) => {
                 Err(Failure::contradiction(format!("energies {energies:?} and ends {ends:?}")))
@@ -56,14 +57,14 @@ impl Outcome {
         }
     }
 
-    /// The refusal of the ends, which is that of the energies too unless it is [`Refusal::Ends`].
+    /// The refusal of the ends. That of the energies is the same, where they are refused.
     pub fn refusal(&self) -> Option<Refusal> {
         self.ends.err()
     }
 
-    /// 0 where there are ends.
-    pub fn code(&self) -> u8 {
-        self.refusal().and_then(Refusal::code).unwrap_or(0)
+    /// 0 where there are ends, and nowhere else.
+    pub fn code(&self) -> Option<u8> {
+        self.refusal().map_or(Some(0), Refusal::code)
     }
 
     /// The three energies, or none where they are refused.
@@ -80,16 +81,17 @@ const HINT: &str = "The usual cause is a round ratio: of the temperature to an e
     att (9 to 6, or under WCA 12 to 6). A temperature or a rep close by has ends (docs/DIFFERENCES.md, \"Records without \
     ends\").";
 
-/// The sentence of a refusal, with the field at fault. What a sweep puts in has no line of the file.
+/// The sentence of a refusal, with the field at fault where that is the reason. What a sweep puts in has no line of the
+/// file.
 pub fn explain(refusal: Refusal, case: &Case, input: &Input, swept: Option<Variable>) -> String {
     let code = refusal.code().map_or(String::new(), |code| format!(" (code {code})"));
     let sentence = format!("Refused{code}. {refusal}");
     if refusal == Refusal::Ends {
         return format!("{sentence} {HINT}");
     }
-    let Some(fault) = case.field_at_fault().map(|fault| cause(case, fault)) else {
-        return sentence;
-    };
+    let by_field = matches!(refusal, Refusal::Substances | Refusal::State);
+    let Some(fault) = case.field_at_fault().filter(|_| by_field) else { return sentence };
+    let fault = cause(case, fault);
     let by_sweep = match fault.field {
         Field::Temperature => swept == Some(Variable::Temperature),
         Field::PartialDensity(_) => swept == Some(Variable::Density),
@@ -106,4 +108,35 @@ fn cause(case: &Case, fault: FieldAtFault) -> FieldAtFault {
     let fraction = FieldAtFault { field: Field::Molefrac(i), value: case.state().molefracs[i] };
     let [least, greatest] = fraction.field.interval();
     if least <= fraction.value && fraction.value <= greatest { fault } else { fraction }
+}
+
+#[cfg(test)]
+mod tests {
+    use super::Outcome;
+    use crate::csv;
+    use noddyfir::{Energies, Fault, Refusal};
+
+    const ENERGIES: Energies = Energies { hard_sphere: 0.5, reference: 0.25, attractive: -0.5 };
+
+    #[test]
+    fn a_code_that_is_not_known_is_printed_as_a_refusal() {
+        let refusal = Refusal::Unknown(99);
+        let refused = Outcome { energies: Err(refusal), ends: Err(refusal) };
+        assert!(refused.check().is_ok() && refused.list().is_empty());
+        assert_eq!(csv::line(1.0, &refused, Some("why")), "1,99,,,,,,,,,,,,,\"why\"");
+        let without_ends = Outcome { energies: Ok(ENERGIES), ends: Err(refusal) };
+        assert!(without_ends.check().is_ok());
+        assert!(without_ends.list().iter().all(|energy| energy.range.is_none()));
+        assert_eq!(without_ends.code(), Some(99));
+    }
+
+    #[test]
+    fn a_fault_has_no_code_and_is_no_success() {
+        let unfit = Refusal::Unfit(Fault::Rounding);
+        let outcome = Outcome { energies: Ok(ENERGIES), ends: Err(unfit) };
+        assert!(outcome.check().is_err());
+        assert_eq!(outcome.code(), None);
+        let refused = Outcome { energies: Err(unfit), ends: Err(unfit) };
+        assert!(csv::line(1.0, &refused, None).starts_with("1,,,"));
+    }
 }

@@ -82,7 +82,7 @@ impl Answer for Ends {
     }
 }
 
-/// Reads the answer at the start of the bytes, and says how many it has.
+/// Reads the answer at the start of the bytes, and says how many it has. Only code 0 is followed by doubles.
 pub(crate) fn read<A: Answer>(bytes: &[u8]) -> (Result<A, Refusal>, usize) {
     if let Some(refusal) = Refusal::from_code(bytes[3]) {
         return (Err(refusal), REFUSAL_SIZE);
@@ -90,4 +90,29 @@ pub(crate) fn read<A: Answer>(bytes: &[u8]) -> (Result<A, Refusal>, usize) {
     let double = |b: &[u8]| f64::from_be_bytes(b.try_into().expect("a chunk has 8 bytes"));
     let doubles: Vec<f64> = bytes[REFUSAL_SIZE..A::SIZE].chunks_exact(8).map(double).collect();
     (Ok(A::of(&doubles)), A::SIZE)
+}
+
+#[cfg(test)]
+mod tests {
+    use super::{Answer, Ends, Energies, read};
+    use crate::{Refusal, known};
+    use std::fmt::Debug;
+
+    /// A good answer, and the same with another code in it.
+    fn only_code_0_is_success<A: Answer + Debug + PartialEq>(good: &[u8]) {
+        assert!(matches!(read::<A>(good), (Ok(_), size) if size == A::SIZE));
+        let mut answer = good.to_vec();
+        for code in 1..=u8::MAX {
+            answer[3] = code;
+            assert_eq!(read::<A>(&answer), (Err(Refusal::from_code(code).unwrap()), 4));
+        }
+        answer[3] = 99;
+        assert_eq!(read::<A>(&answer), (Err(Refusal::Unknown(99)), 4));
+    }
+
+    #[test]
+    fn bytes_behind_a_refusal_are_no_energies_and_no_ends() {
+        only_code_0_is_success::<Energies>(&known::ENERGIES[0]);
+        only_code_0_is_success::<Ends>(&known::ENDS[0]);
+    }
 }

@@ -50,17 +50,59 @@ fn run<A: Answer>(cases: &[Case], call: Call) -> Vec<Result<A, Refusal>> {
         records.clear();
         part.iter().for_each(|case| case.write_record(&mut records));
         match call(&records, &mut answers) {
-            Ok(run) => read_all(&answers[..run.written], &mut results),
+            Ok(run) => results.extend(read_all(&answers[..run.written], part.len())),
             Err(fault) => results.extend(part.iter().map(|_| Err(fault.into()))),
         }
     }
     results
 }
 
-fn read_all<A: Answer>(mut answers: &[u8], results: &mut Vec<Result<A, Refusal>>) {
+/// So many answers that stand one after the other. There is room for each, so the library answers every case; were it
+/// otherwise, results would go to the wrong cases.
+fn read_all<A: Answer>(mut answers: &[u8], count: usize) -> Vec<Result<A, Refusal>> {
+    let mut results = Vec::with_capacity(count);
     while !answers.is_empty() {
         let (result, size) = read(answers);
         results.push(result);
         answers = &answers[size..];
+    }
+    assert_eq!(results.len(), count, "an answer for each case");
+    results
+}
+
+#[cfg(test)]
+mod tests {
+    use super::{read_all, run};
+    use crate::bytes::{Reason, Run};
+    use crate::{Case, Energies, Mixture, Perturbation, Refusal, State, Substance, known};
+
+    const REFUSED: [u8; 4] = [0, 2, 1, 99];
+
+    #[test]
+    fn a_code_that_is_not_known_keeps_the_place() {
+        let [good, other] = [&known::ENERGIES[0][..], &known::ENERGIES[1][..]];
+        let [first] = read_all::<Energies>(good, 1)[..] else { panic!("one answer") };
+        let [last] = read_all::<Energies>(other, 1)[..] else { panic!("one answer") };
+        assert!(first.is_ok() && last.is_ok() && first != last);
+        let answers = [good, &REFUSED, other].concat();
+        assert_eq!(read_all(&answers, 3), [first, Err(Refusal::Unknown(99)), last]);
+    }
+
+    #[test]
+    fn a_run_of_such_codes_has_a_result_for_each_case() {
+        let mixture = Mixture::pure(Substance::new(12.65, 6.0, 3.74, 153.5));
+        let state = State::with_density(301.0, 0.005, vec![1.0]);
+        let case = Case::new(Perturbation::BarkerHenderson, mixture, state).unwrap();
+        let results = run::<Energies>(&[case.clone(), case], |records, answers| {
+            answers[..8].copy_from_slice(&[REFUSED, REFUSED].concat());
+            Ok(Run { records: 2, read: records.len(), written: 8, reason: Reason::UsedUp })
+        });
+        assert_eq!(results, [Err(Refusal::Unknown(99)); 2]);
+    }
+
+    #[test]
+    #[should_panic = "an answer for each case"]
+    fn answers_that_are_missing_are_seen() {
+        read_all::<Energies>(&REFUSED, 2);
     }
 }

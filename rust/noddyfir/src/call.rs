@@ -40,6 +40,36 @@ fn answer<A: Answer>(
     call: fn(&[u8], &mut [u8]) -> Result<u8, Fault>,
 ) -> Result<A, Refusal> {
     let mut answer = [0; bytes::ENDS_SIZE];
-    call(&case.record(), &mut answer)?;
-    read(&answer).0
+    // By the code that is returned, since code 1 writes nothing.
+    match Refusal::from_code(call(&case.record(), &mut answer)?) {
+        Some(refusal) => Err(refusal),
+        None => read(&answer).0,
+    }
+}
+
+#[cfg(test)]
+mod tests {
+    use super::answer;
+    use crate::{Case, Energies, Fault, Mixture, Perturbation, Refusal, State, Substance};
+
+    fn refused(call: fn(&[u8], &mut [u8]) -> Result<u8, Fault>) -> Refusal {
+        let mixture = Mixture::pure(Substance::new(12.65, 6.0, 3.74, 153.5));
+        let state = State::with_density(301.0, 0.005, vec![1.0]);
+        let case = Case::new(Perturbation::WeeksChandlerAndersen, mixture, state).unwrap();
+        answer::<Energies>(&case, call).unwrap_err()
+    }
+
+    #[test]
+    fn a_code_that_is_not_known_is_a_refusal() {
+        let unknown = refused(|_, answer| {
+            answer[..4].copy_from_slice(&[0, 2, 1, 99]);
+            Ok(99)
+        });
+        assert_eq!(unknown, Refusal::Unknown(99));
+    }
+
+    #[test]
+    fn a_refusal_that_writes_nothing_is_a_refusal() {
+        assert_eq!(refused(|_, _| Ok(1)), Refusal::AnswerBuffer);
+    }
 }

@@ -3,9 +3,10 @@
 use crate::self_check::Fault;
 use std::fmt::{self, Display, Formatter};
 
-/// Why a case has no answer: one of the ten codes of the specification (document 01), by the place of its check, or a
-/// fault of the arithmetic itself. The first code that applies counts.
+/// Why a case has no answer: one of the codes of the specification (document 01), by the place of its check, or a fault
+/// of the arithmetic itself. The first code that applies counts.
 #[derive(Clone, Copy, Debug, PartialEq, Eq)]
+#[non_exhaustive]
 pub enum Refusal {
     /// Code 1: the answer buffer is too short.
     AnswerBuffer,
@@ -27,6 +28,8 @@ pub enum Refusal {
     Arithmetic,
     /// Code 10: the energies have no ends. From the calls for ends only.
     Ends,
+    /// Another code: the library is newer than this crate. Only code 0 is success.
+    Unknown(u8),
     /// Nothing was worked: the arithmetic of this thread is not as the proof assumes it.
     Unfit(Fault),
 }
@@ -64,20 +67,25 @@ const CODES: [(Refusal, &str); 10] = [
 ];
 
 impl Refusal {
-    /// The refusal with this code, 1 to 10.
+    /// The refusal with this code; 0, which is success, has none.
     ///
     /// ```
     /// use noddyfir::Refusal;
     /// assert_eq!(Refusal::from_code(8), Some(Refusal::State));
+    /// assert_eq!(Refusal::from_code(99), Some(Refusal::Unknown(99)));
     /// assert_eq!(Refusal::from_code(0), None);
     /// ```
     pub fn from_code(code: u8) -> Option<Self> {
-        CODES.get(usize::from(code).checked_sub(1)?).map(|(refusal, _)| *refusal)
+        let place = usize::from(code).checked_sub(1)?;
+        Some(CODES.get(place).map_or(Self::Unknown(code), |(refusal, _)| *refusal))
     }
 
-    /// The code, 1 to 10; a fault of the arithmetic has none.
+    /// The code; a fault of the arithmetic has none.
     pub fn code(self) -> Option<u8> {
-        self.place().map(|place| place as u8 + 1)
+        match self {
+            Self::Unknown(code) => Some(code),
+            _ => self.place().map(|place| place as u8 + 1),
+        }
     }
 
     /// A plain sentence.
@@ -90,7 +98,7 @@ impl Refusal {
         match (self, self.place()) {
             (Self::Unfit(fault), _) => fault.sentence(),
             (_, Some(place)) => CODES[place].1,
-            (_, None) => "No such code.",
+            (_, None) => "The case is refused with a code that this crate does not know.",
         }
     }
 
@@ -100,9 +108,13 @@ impl Refusal {
 }
 
 impl Display for Refusal {
-    /// The sentence.
+    /// The sentence, and behind it a code that is not known, since nothing else tells what it is.
     fn fmt(&self, f: &mut Formatter) -> fmt::Result {
-        f.write_str(self.sentence())
+        f.write_str(self.sentence())?;
+        match self {
+            Self::Unknown(code) => write!(f, " It is code {code}."),
+            _ => Ok(()),
+        }
     }
 }
 
@@ -111,5 +123,32 @@ impl std::error::Error for Refusal {}
 impl From<Fault> for Refusal {
     fn from(fault: Fault) -> Self {
         Self::Unfit(fault)
+    }
+}
+
+#[cfg(test)]
+mod tests {
+    use super::{CODES, Refusal};
+
+    #[test]
+    fn every_code_has_its_own_sentence() {
+        for (place, (refusal, sentence)) in CODES.iter().enumerate() {
+            let code = place as u8 + 1;
+            assert_eq!(Refusal::from_code(code), Some(*refusal));
+            assert_eq!((refusal.code(), refusal.sentence()), (Some(code), *sentence));
+            assert_eq!(refusal.to_string(), *sentence);
+            assert!(CODES[..place].iter().all(|(_, other)| other != sentence));
+            assert!(sentence.ends_with('.'));
+        }
+    }
+
+    #[test]
+    fn every_other_code_is_a_refusal_that_keeps_its_number() {
+        for code in CODES.len() as u8 + 1..=u8::MAX {
+            let refusal = Refusal::from_code(code).unwrap();
+            assert_eq!((refusal, refusal.code()), (Refusal::Unknown(code), Some(code)));
+            assert!(refusal.to_string().ends_with(&format!("does not know. It is code {code}.")));
+        }
+        assert_eq!(Refusal::from_code(0), None);
     }
 }

@@ -102,14 +102,3 @@ fn a_run_has_the_results_of_the_single_calls() {
     assert_eq!(results[0], Err(Refusal::State));
     assert!(run_energies(&[]).is_empty());
 }
-
-#[test]
-fn every_code_has_its_own_sentence() {
-    let refusals: Vec<Refusal> = (1..=10).map(|code| Refusal::from_code(code).unwrap()).collect();
-    for (i, refusal) in refusals.iter().enumerate() {
-        assert_eq!(refusal.code(), Some(i as u8 + 1));
-        assert!(refusals[..i].iter().all(|other| other.sentence() != refusal.sentence()));
-        assert!(refusal.sentence().ends_with('.'));
-    }
-    assert_eq!(Refusal::from_code(11), None);
-}
