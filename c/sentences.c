@@ -1,6 +1,7 @@
 /* A sentence for each code and each fault. */
 #include "noddyfir.h"
 
+/* written by tools/codes from docs/codes.txt */
 static const char *const CODES[] = {
     "Accepted.",
     "The answer buffer is too short: energies need 28 bytes, ends 52.",
@@ -9,14 +10,15 @@ static const char *const CODES[] = {
     "The perturbation is none of 0 (BH), 1 (WCA) and 2 (WCA-B3).",
     "The number of substances is not from 1 to 8.",
     "The length of the record is not that of its number of substances.",
-    "A value of the substances is outside its interval: rep 8 to 48, att 5 to 7, sigma 0.5 to 10 angstrom, "
-    "epsilon_k 0.1 to 5000 kelvin, k_ij -0.9 to 0.9.",
+    "A value of the substances is outside its interval: rep 8 to 48, att 5 to 7, sigma 0.5 to 10 angstrom, epsilon_k "
+    "0.1 to 5000 kelvin, k_ij -0.9 to 0.9.",
     "A value of the state is outside its interval: temperature 1 to 5000 kelvin, densities 0 to 2 per cubic angstrom, "
     "fractions 0 to 1 that add up to 1 within 2^-40.",
     "A value on the way is not a finite number, or a function has no rule for its argument.",
-    "The energies have no ends: on the way, a range holds numbers that take different cases of one rule, or a rule "
-    "has no result for it.",
+    "The energies have no ends: on the way, a range holds numbers that take different cases of one rule, or a rule has "
+    "no result for it.",
 };
+/* end of the codes */
 
 static const char *const FAULTS[] = {
     "The arithmetic is fit for use.",

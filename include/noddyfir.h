@@ -42,20 +42,37 @@ extern "C" {
 #define NODDYFIR_RECORD_SIZE_MAX 621
 #define NODDYFIR_SUBSTANCES_MAX 8
 
-/* The codes of an answer. The first that applies counts. `noddyfir_code_sentence` has a sentence for each. */
+/*
+ * The codes of an answer; the first that applies counts, and NODDYFIR_CODE_MAX is the last of them.
+ * `noddyfir_code_sentence` has a sentence for each.
+ */
+/* written by tools/codes from docs/codes.txt */
 enum noddyfir_code {
+    /* the only success */
     NODDYFIR_ACCEPTED = 0,
-    NODDYFIR_ANSWER_BUFFER = 1, /* answer buffer too short; nothing is written */
-    NODDYFIR_ENVELOPE = 2,      /* record under 5 bytes, or its length field is wrong */
-    NODDYFIR_VERSION = 3,       /* version not 1 */
-    NODDYFIR_PERTURBATION = 4,  /* perturbation above 2 */
-    NODDYFIR_COMPONENTS = 5,    /* n not 1 to 8 */
-    NODDYFIR_SIZE = 6,          /* length not that of n */
-    NODDYFIR_SUBSTANCES = 7,    /* rep not in 8..48, att 5..7, sigma 0.5..10, epsilon_k 0.1..5000 or k_ij -0.9..0.9 */
-    NODDYFIR_STATE = 8,         /* temperature not in 1..5000, a density 0..2, a fraction 0..1, or their sum not 1 */
-    NODDYFIR_ARITHMETIC = 9,    /* a value is not finite, or a function has no rule for its argument */
-    NODDYFIR_ENDS = 10          /* there are energies and no ends; from the calls for ends only */
+    /* answer buffer too short; nothing is written */
+    NODDYFIR_ANSWER_BUFFER = 1,
+    /* record under 5 bytes, or its length field is wrong */
+    NODDYFIR_ENVELOPE = 2,
+    /* version not 1 */
+    NODDYFIR_VERSION = 3,
+    /* perturbation above 2 */
+    NODDYFIR_PERTURBATION = 4,
+    /* number of substances n not 1 to 8 */
+    NODDYFIR_COMPONENTS = 5,
+    /* length is not that of n substances */
+    NODDYFIR_SIZE = 6,
+    /* rep not in 8..48, att 5..7, sigma 0.5..10, epsilon_k 0.1..5000, or k_ij -0.9..0.9 */
+    NODDYFIR_SUBSTANCES = 7,
+    /* temperature not in 1..5000, a density 0..2, a fraction 0..1, or the sum of the fractions not 1 within 2^-40 */
+    NODDYFIR_STATE = 8,
+    /* a value is not finite, or a function has no rule for its argument */
+    NODDYFIR_ARITHMETIC = 9,
+    /* a range rule fails, so there are energies and no ends; from the calls for ends only */
+    NODDYFIR_ENDS = 10
 };
+#define NODDYFIR_CODE_MAX 10
+/* end of the codes */
 
 /*
  * Writes the answer of energies to one record at the start of `answer` and returns its code.

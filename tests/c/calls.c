@@ -78,11 +78,12 @@ static void runs(void)
 
 static void sentences(void)
 {
-    for (int code = 0; code <= 10; code++)
+    for (int code = 0; code <= NODDYFIR_CODE_MAX; code++)
         expect(strcmp(noddyfir_code_sentence(code), "No such code.") != 0, "a sentence for each code");
     for (int fault = 0; fault <= 5; fault++)
         expect(strcmp(noddyfir_fault_sentence(fault), "No such fault.") != 0, "a sentence for each fault");
-    expect(strcmp(noddyfir_code_sentence(11), "No such code.") == 0, "no eleventh code");
+    expect(strcmp(noddyfir_code_sentence(NODDYFIR_CODE_MAX + 1), "No such code.") == 0, "no code past the last");
+    expect(strcmp(noddyfir_code_sentence(-1), "No such code.") == 0, "no code below 0");
     expect(strcmp(noddyfir_fault_sentence(-1), "No such fault.") == 0, "no such fault");
 }
 

@@ -8,63 +8,54 @@ use std::fmt::{self, Display, Formatter};
 #[derive(Clone, Copy, Debug, PartialEq, Eq)]
 #[non_exhaustive]
 pub enum Refusal {
-    /// Code 1: the answer buffer is too short.
+    // written by tools/codes from docs/codes.txt
+    /// Code 1: answer buffer too short; nothing is written.
     AnswerBuffer,
-    /// Code 2: the record is too short, or its length field is wrong.
+    /// Code 2: record under 5 bytes, or its length field is wrong.
     Envelope,
-    /// Code 3: the version is not 1.
+    /// Code 3: version not 1.
     Version,
-    /// Code 4: the perturbation is unknown.
+    /// Code 4: perturbation above 2.
     Perturbation,
-    /// Code 5: the number of substances is not from 1 to 8.
+    /// Code 5: number of substances n not 1 to 8.
     Components,
-    /// Code 6: the length is not that of the number of substances.
+    /// Code 6: length is not that of n substances.
     Size,
-    /// Code 7: a value of the substances is outside its interval.
+    /// Code 7: rep not in 8..48, att 5..7, sigma 0.5..10, epsilon_k 0.1..5000, or k_ij -0.9..0.9.
     Substances,
-    /// Code 8: a value of the state is outside its interval.
+    /// Code 8: temperature not in 1..5000, a density 0..2, a fraction 0..1, or the sum of the fractions not 1 within
+    /// 2^-40.
     State,
-    /// Code 9: a value on the way is not finite, or a function has no rule for its argument.
+    /// Code 9: a value is not finite, or a function has no rule for its argument.
     Arithmetic,
-    /// Code 10: the energies have no ends. From the calls for ends only.
+    /// Code 10: a range rule fails, so there are energies and no ends; from the calls for ends only.
     Ends,
+    // end of the codes
     /// Another code: the library is newer than this crate. Only code 0 is success.
     Unknown(u8),
     /// Nothing was worked: the arithmetic of this thread is not as the proof assumes it.
     Unfit(Fault),
 }
 
-/// By code, from 1 on, with the sentences that `c/sentences.c` has too.
-const CODES: [(Refusal, &str); 10] = [
+// By code, from 1 on; written by tools/codes from docs/codes.txt.
+#[rustfmt::skip]
+const CODES: &[(Refusal, &str)] = &[
     (Refusal::AnswerBuffer, "The answer buffer is too short: energies need 28 bytes, ends 52."),
-    (
-        Refusal::Envelope,
-        "The record has under 5 bytes, or its length field is not the number of bytes that follow it.",
-    ),
+    (Refusal::Envelope, "The record has under 5 bytes, or its length field is not the number of bytes that follow \
+        it."),
     (Refusal::Version, "The version of the record is not 1."),
     (Refusal::Perturbation, "The perturbation is none of 0 (BH), 1 (WCA) and 2 (WCA-B3)."),
     (Refusal::Components, "The number of substances is not from 1 to 8."),
     (Refusal::Size, "The length of the record is not that of its number of substances."),
-    (
-        Refusal::Substances,
-        "A value of the substances is outside its interval: rep 8 to 48, att 5 to 7, sigma 0.5 to 10 angstrom, \
-         epsilon_k 0.1 to 5000 kelvin, k_ij -0.9 to 0.9.",
-    ),
-    (
-        Refusal::State,
-        "A value of the state is outside its interval: temperature 1 to 5000 kelvin, densities 0 to 2 per cubic \
-         angstrom, fractions 0 to 1 that add up to 1 within 2^-40.",
-    ),
-    (
-        Refusal::Arithmetic,
-        "A value on the way is not a finite number, or a function has no rule for its argument.",
-    ),
-    (
-        Refusal::Ends,
-        "The energies have no ends: on the way, a range holds numbers that take different cases of one rule, or a \
-         rule has no result for it.",
-    ),
+    (Refusal::Substances, "A value of the substances is outside its interval: rep 8 to 48, att 5 to 7, sigma 0.5 to 10 \
+        angstrom, epsilon_k 0.1 to 5000 kelvin, k_ij -0.9 to 0.9."),
+    (Refusal::State, "A value of the state is outside its interval: temperature 1 to 5000 kelvin, densities 0 to 2 per \
+        cubic angstrom, fractions 0 to 1 that add up to 1 within 2^-40."),
+    (Refusal::Arithmetic, "A value on the way is not a finite number, or a function has no rule for its argument."),
+    (Refusal::Ends, "The energies have no ends: on the way, a range holds numbers that take different cases of one \
+        rule, or a rule has no result for it."),
 ];
+// end of the codes
 
 impl Refusal {
     /// The refusal with this code; 0, which is success, has none.
