@@ -5,9 +5,9 @@
  *
  *     cc -Iinclude program.c target/lib/libnoddyfir.a
  *
- * The first four calls are proved; docs/TRUST.md says on what the proof rests. They keep no state, allocate nothing and
- * may be called from any thread. They read the record bytes, write at most the answer bytes, and touch nothing else.
- * No pointer may be NULL, even where its length is 0, and the two regions of a call must not overlap.
+ * The calls above the line "not proved" are proved; docs/TRUST.md says on what the proof rests. They keep no state,
+ * allocate nothing and may be called from any thread. They read the record bytes, write at most the answer bytes, and
+ * touch nothing else. No pointer may be NULL, even where its length is 0, and the two regions of a call must not overlap.
  *
  * A case record, all numbers with the most significant byte first, doubles as IEEE 754 binary64:
  *

@@ -1,4 +1,4 @@
-//! The four calls on bytes, for senders who have records already. The formats are those of `include/noddyfir.h`.
+//! The calls on bytes, for senders who have records already. The formats are those of `include/noddyfir.h`.
 //!
 //! ```
 //! use noddyfir::bytes::{self, Reason};

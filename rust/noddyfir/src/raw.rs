@@ -1,4 +1,4 @@
-//! The only unsafe code of this crate: the four proved calls, and the reading of the processor's control word.
+//! The only unsafe code of this crate: the proved calls, and the reading of the processor's control word.
 
 use std::arch::asm;
 
