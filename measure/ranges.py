@@ -27,7 +27,7 @@ from range_rules import INFINITY, LARGEST, NAN, ONE, SIGN, double_of, is_finite,
 HERE = Path(__file__).resolve().parent
 TARGET = HERE.parent / "target"
 
-# The methods in the order of their numbers (crates/range/specs/Applied.antt), with the rule of each.
+# The methods in the order of their numbers (crates/measured/specs/Applied.antt), with the rule of each.
 METHODS = {
     "neg": lambda k, t, a, b: rules.neg(a),
     "add": lambda k, t, a, b: rules.add(a, b),
@@ -53,14 +53,10 @@ FAILED = (NAN, NAN)
 
 
 def build():
-    """The shared object. The archive is made anew, and its crates proved for it, where a file of theirs is newer."""
-    archive, shared = TARGET / "staticlib/librange.a", TARGET / "measure/librange.so"
-    crates = [HERE.parent / "crates" / name for name in ("arithmetic", "elementary", "range")]
-    sources = [f for crate in crates for f in crate.rglob("*") if f.suffix in (".rt", ".antt")]
-    if not archive.exists() or max(f.stat().st_mtime for f in sources) > archive.stat().st_mtime:
-        made = subprocess.run(["rt", "staticlib", "range"], cwd=HERE.parent, capture_output=True, text=True)
-        if made.returncode != 0:
-            sys.exit(made.stdout + made.stderr)
+    """The shared object."""
+    archive, shared = TARGET / "staticlib/libmeasured.a", TARGET / "measure/libmeasured.so"
+    if subprocess.run([HERE.parent / "tools/archive", "measured"]).returncode != 0:
+        sys.exit(1)
     shared.parent.mkdir(parents=True, exist_ok=True)
     whole = ["-Wl,--whole-archive", str(archive), "-Wl,--no-whole-archive"]
     subprocess.run([os.environ.get("CC", "cc"), "-shared", "-o", str(shared), *whole], check=True)
