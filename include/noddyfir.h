@@ -84,7 +84,8 @@ uint8_t noddyfir_energies(const uint8_t *record, size_t record_size, uint8_t *an
  * Writes the answer of ends to one record at the start of `answer` and returns its code.
  * Under 52 bytes of answer it returns 1 and writes nothing. Bytes past the answer are untouched.
  * Proved: where the code is 0, the energies call has code 0 too, each of its values lies between its lower and upper
- * end, and so does the value that the same formulas have without any rounding.
+ * end, and so does what the same formulas give in fractions without any rounding, whichever fraction between its own
+ * ends each root takes.
  */
 uint8_t noddyfir_ends(const uint8_t *record, size_t record_size, uint8_t *answer, size_t answer_size);
 

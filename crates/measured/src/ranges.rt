@@ -1,7 +1,7 @@
 // Every method under two C names, one for each end of the result, for the comparison with an independent implementation of the rules (measure/ranges.py).
+use elementary::basic::is_finite;
 use range::basic::Range;
 use range::basic::failed;
-use elementary::basic::is_finite;
 ghost use mathlib.Core.Path.{_≡_};
 ghost use Rattle.range.specs.Rules as Rules;
 ghost use Rattle.measured.specs.Applied.{applied, whereBelow, whereAbove};

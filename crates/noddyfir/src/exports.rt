@@ -1,4 +1,4 @@
-// The four calls for C and other languages, by names that collide with no other library's. A slice is passed as a pointer and a length.
+// The calls for C and other languages, by names that collide with no other library's. A slice is passed as a pointer and a length.
 ghost use mathlib.Core.Path.{_≡_};
 ghost use Prim.Native.Nat.{_≤_};
 ghost use lib.ListN.{length};

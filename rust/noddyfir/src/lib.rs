@@ -2,8 +2,9 @@
 //!
 //! The numbers come from a proved library; this crate gives it types. [`energies`] has three energies, each divided by
 //! kT, per cubic ångström. [`ends`] has for each a lower and an upper end. Proved, for every case that has ends: each
-//! energy lies between its ends, and so does the value that the same formulas have without any rounding. `docs/TRUST.md`
-//! says on what the proof rests; [`self_check`] tests what a host program can break by accident, and every call asks it.
+//! energy lies between its ends, and so does what the same formulas give in fractions without any rounding, whichever
+//! fraction between its own ends each root takes. `docs/TRUST.md` says on what the proof rests; [`self_check`] tests
+//! what a host program can break by accident, and every call asks it.
 //!
 //! ```
 //! use noddyfir::{Case, Mixture, Perturbation, State, Substance, ends, energies};
