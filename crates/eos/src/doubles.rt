@@ -4,13 +4,12 @@ use uvtheory::parameters::Mixture;
 use uvtheory::parameters::State;
 ghost use Prim.Native.Nat.{_≤_};
 ghost use Rattle.arithmetic.specs.Doubles.{guarded};
-ghost use Rattle.uvtheory.specs.Rows.{parameters, state};
 ghost use Rattle.uvtheory.specs.Held.{ContributionsOf};
-ghost use Rattle.uvtheory.specs.Eos as F;
+ghost use Rattle.eos.specs.Sent.{contributions};
 
 pub fn contributions(perturbation: u8, m: Mixture, s: State) -> Contributions
     requires { ⌜ m .n ≤ 8 ⌝ }
-    ensures { λ r. ⌜ ContributionsOf r (F.residual-helmholtz-energy-contributions guarded perturbation (parameters guarded m) (state guarded s)) ⌝ }
+    ensures { λ r. ⌜ ContributionsOf r (contributions guarded perturbation m s) ⌝ }
 {
     if perturbation == 0 {
         return uvtheory_bh::residual_helmholtz_energy_contributions(m, s);

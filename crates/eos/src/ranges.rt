@@ -4,13 +4,12 @@ use uvtheory::parameters::State;
 use uvtheory_range::contributions::Contributions;
 ghost use Prim.Native.Nat.{_≤_};
 ghost use Rattle.range.specs.Rules.{ranges};
-ghost use Rattle.uvtheory.specs.Rows.{parameters, state};
-ghost use Rattle.uvtheory.specs.Eos as F;
+ghost use Rattle.eos.specs.Sent.{contributions};
 ghost use Rattle.uvtheory_range.specs.Held.{ContributionsOf};
 
 pub fn contributions(perturbation: u8, m: Mixture, s: State) -> Contributions
     requires { ⌜ m .n ≤ 8 ⌝ }
-    ensures { λ r. ⌜ ContributionsOf r (F.residual-helmholtz-energy-contributions ranges perturbation (parameters ranges m) (state ranges s)) ⌝ }
+    ensures { λ r. ⌜ ContributionsOf r (contributions ranges perturbation m s) ⌝ }
 {
     if perturbation == 0 {
         return uvtheory_range_bh::residual_helmholtz_energy_contributions(m, s);

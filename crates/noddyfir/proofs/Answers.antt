@@ -11,10 +11,9 @@ use lib.Ieee.{Float, nan, inf, fin}
 use lib.Ieee.Scale.{finite}
 use Rattle.arithmetic.specs.Doubles.{checked, guarded}
 use Rattle.uvtheory.specs.Contributions.{Contributions}
-use Rattle.uvtheory.specs.Eos.{residual-helmholtz-energy-contributions}
+use Rattle.eos.specs.Sent.{contributions}
 use Rattle.uvtheory.specs.declared.contributions.Contributions.{Contributions as Held}
 use Rattle.uvtheory.specs.Held.{ContributionsOf}
-use Rattle.uvtheory.specs.Rows.{parameters, state}
 use Rattle.range.specs.declared.basic.Range.{Range}
 use Rattle.range.specs.Rules.{ok, ranges}
 use Rattle.uvtheory_range.specs.declared.contributions.Contributions.{Contributions as HeldEnds}
@@ -77,10 +76,10 @@ agree g d a = checked-three (g .hard-sphere) (g .reference) (g .attractive) ∙ 
 
 -- what the code works
 abbrev worked : Case → Contributions Float
-worked c = residual-helmholtz-energy-contributions guarded (c .perturbation) (parameters guarded (c .mixture)) (state guarded (c .state))
+worked c = contributions guarded (c .perturbation) (c .mixture) (c .state)
 
 its-energies : (c : Case) → three (worked c .hard-sphere) (worked c .reference) (worked c .attractive) ≡ energiesOf c
-unfolding energiesOf
+unfolding energiesOf contributions
 its-energies c = agree _ _ (contributions-agree (c .perturbation) (c .mixture) (c .state))
 
 -- the three energies e that the code works for a case c, and its tests p, q and r of them
@@ -108,7 +107,7 @@ module _ (c : Case) {e : Held} (are : ContributionsOf e (worked c)) where
     not-all-finite h = sym (ap (λ (b : Bool). cond b (Values x y z) (Refused 9)) (tests h)) ∙ as-worked
 
 -- ---- and the three ranges
-module _ (c : Case) {e : HeldEnds} (are : EndsHeld e (residual-helmholtz-energy-contributions ranges (c .perturbation) (parameters ranges (c .mixture)) (state ranges (c .state)))) where
+module _ (c : Case) {e : HeldEnds} (are : EndsHeld e (contributions ranges (c .perturbation) (c .mixture) (c .state))) where
   its-ends : cond (ok (e .«hard_sphere») && ok (e .reference) && ok (e .attractive)) (Ranges (e .«hard_sphere») (e .reference) (e .attractive)) (NoEnds 10) ≡ endsOf c
   unfolding endsOf okOr10
   its-ends = rw (are .hard-sphere-is, are .reference-is, are .attractive-is)
@@ -153,7 +152,7 @@ EndsSized e = length (endsBytes e) ≡ sizeOf 52 (endsCode e)
 ends-sized-case : (c : Case) → EndsSized (endsOf c)
 unfolding EndsSized endsOf okOr10 doubleBytes bytesOf
 ends-sized-case c =
-    let e = residual-helmholtz-energy-contributions ranges (c .perturbation) (parameters ranges (c .mixture)) (state ranges (c .state)) in
+    let e = contributions ranges (c .perturbation) (c .mixture) (c .state) in
     go (ok (e .hard-sphere) && ok (e .reference) && ok (e .attractive)) (e .hard-sphere) (e .reference) (e .attractive)
   where
     go : (f : Bool) (x y z : Range) → EndsSized (cond f (Ranges x y z) (NoEnds 10))

@@ -20,7 +20,7 @@ use Rattle.range.specs.Enclosed.{Ok, Enclosed}
 use Rattle.range.proofs.Certified.{Holds, certified, enclosed}
 use Rattle.range.proofs.Carried.{Carries, carried}
 use Rattle.uvtheory.specs.Contributions.{Contributions}
-use Rattle.uvtheory.specs.Eos.{residual-helmholtz-energy-contributions}
+use Rattle.eos.specs.Sent.{contributions}
 use Rattle.uvtheory.specs.Rows.{row, place, parameters, state}
 use Rattle.uvtheory.proofs.Kept.{Related, contributions-kept}
 use Rattle.case_record.specs.declared.answer.Energies.{Energies}
@@ -35,7 +35,7 @@ use Rattle.noddyfir.proofs.Answers.{accepted, passed}
 
 -- the three energies of a case in any arithmetic
 abbrev energiesIn : (A : Arithmetic) → Case → Contributions (A .Value)
-energiesIn A c = residual-helmholtz-energy-contributions A (c .perturbation) (parameters A (c .mixture)) (state A (c .state))
+energiesIn A c = contributions A (c .perturbation) (c .mixture) (c .state)
 
 -- what all operations keep, the energies of every case keep
 module _ (A B : Arithmetic) (R : A .Value → B .Value → Type 0) (K : Kept A B R) (c : Case) where
@@ -43,6 +43,7 @@ module _ (A B : Arithmetic) (R : A .Value → B .Value → Type 0) (K : Kept A B
   sent xs i = bothOf R (K .constant (row xs i))
 
   energies-kept : Related A B R K (energiesIn A c) (energiesIn B c)
+  unfolding contributions
   energies-kept =
       let m = c .mixture in
       let s = c .state in

@@ -10,8 +10,7 @@ use Rattle.arithmetic.specs.Doubles.{doubles}
 use Rattle.range.specs.declared.basic.Range.{Range}
 use Rattle.range.specs.Rules.{ok, ranges}
 use Rattle.uvtheory.specs.Contributions.{Contributions}
-use Rattle.uvtheory.specs.Eos.{residual-helmholtz-energy-contributions}
-use Rattle.uvtheory.specs.Rows.{parameters, state}
+use Rattle.eos.specs.Sent.{contributions}
 use Rattle.case_record.specs.declared.answer.Energies.{Energies}
 use Rattle.case_record.specs.declared.answer.Energies.the-variants.{Values, Refused}
 use Rattle.case_record.specs.declared.answer.Ends.{Ends}
@@ -30,7 +29,7 @@ finiteOr9 e =
     cond (finite (e .hard-sphere) && finite (e .reference) && finite (e .attractive)) (Values (e .hard-sphere) (e .reference) (e .attractive)) (Refused 9)
 
 unfoldable pub energiesOf : Case → Energies
-energiesOf c = finiteOr9 (residual-helmholtz-energy-contributions doubles (c .perturbation) (parameters doubles (c .mixture)) (state doubles (c .state)))
+energiesOf c = finiteOr9 (contributions doubles (c .perturbation) (c .mixture) (c .state))
 
 -- the code of the first check that fails, or the energies of the record's case
 unfoldable pub answerOf : List ℕ → Energies
@@ -46,7 +45,7 @@ unfoldable pub okOr10 : Contributions Range → Ends
 okOr10 e = cond (ok (e .hard-sphere) && ok (e .reference) && ok (e .attractive)) (Ranges (e .hard-sphere) (e .reference) (e .attractive)) (NoEnds 10)
 
 unfoldable pub endsOf : Case → Ends
-endsOf c = okOr10 (residual-helmholtz-energy-contributions ranges (c .perturbation) (parameters ranges (c .mixture)) (state ranges (c .state)))
+endsOf c = okOr10 (contributions ranges (c .perturbation) (c .mixture) (c .state))
 
 -- "Place, in order": what refuses the energies refuses the ends, with its code; 9 comes before 10
 abbrev pub afterEnergies : Energies → Ends → Ends

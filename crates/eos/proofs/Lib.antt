@@ -1,0 +1,2 @@
+-- The choice of a perturbation, in any arithmetic.
+mod Choice

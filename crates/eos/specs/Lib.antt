@@ -1,0 +1,2 @@
+-- The contributions of a mixture in a state, as sent.
+pub mod Sent
