@@ -7,6 +7,8 @@ pub mod Zero
 pub mod Squares
 pub mod Significand
 pub mod RoundedRoot
+pub mod Rounds
+pub mod RootDigits
 pub mod Nearest
 pub mod Enclosure
 pub mod Cases

@@ -5,6 +5,7 @@ use native.Mathlib.Nat.{mul-div-mul-right, mul-assoc, mul-right-comm, suc-add, z
 use native.Mathlib.Omega.{arith}
 use mathlib.Core.Bool.{Bool, true, false, not, cond, true≢false}
 use lib.Dec.{T, isLe, isEq, eqb, leb→le, nleb→lt, eqb→eq, not-T}
+use lib.IntN.{ℤ}
 use lib.Pow.{pow-add, pow-pos, pow-mono, shl-lt}
 use lib.Ieee.{Float, nan, inf, fin, binary64, up, down, size, nearest, round, fits, toBits, ofBits}
 use lib.Ieee.Digits.{size-lt, size-le}
@@ -14,7 +15,7 @@ use lib.Ieee.Exact.{HasValue}
 use lib.Ieee.Nearest.{closest}
 use lib.Ieee.Order.{drop}
 use lib.Ieee.Scale.{grid, round-val}
-use Rattle.arithmetic.specs.Root.{root, roundedRoot, sqrt}
+use Rattle.arithmetic.specs.Root.{root, roundedRoot, inFourths, sqrt}
 use Rattle.arithmetic.proofs.Significand.{Parts}
 use Rattle.arithmetic.proofs.Squares.{IsRoot, root-is, less-of-squares}
 
@@ -93,7 +94,7 @@ module _ (h m p : ℕ) (P : 0 < p) (f : Between h m) where
 size-is : (n k : ℕ) → 2 ^ k ≤ n → n < 2 ^ suc k → size n ≡ suc k
 size-is n k lo hi = le-antisymm (size-le n (suc k) hi) (lt-of-not-le (λ (g : size n ≤ k). not-le-of-lt (lt-of-lt-of-le (size-lt n) (pow-mono g)) lo))
 
-root-size : (m j : ℕ) → 2 ^ 106 ≤ m → m < 2 ^ 108 → size (root (m * (2 ^ j * 2 ^ j))) ≡ suc (53 + j)
+pub root-size : (m j : ℕ) → 2 ^ 106 ≤ m → m < 2 ^ 108 → size (root (m * (2 ^ j * 2 ^ j))) ≡ suc (53 + j)
 root-size m j lo hi =
     let p = 2 ^ j in
     let PP : 0 < p * p = mul-pos (pow-pos j) (pow-pos j) in
@@ -152,16 +153,20 @@ unfolding roundedRoot
 rounded-fits n = round-fits binary64 false (doubled n) (2 ^ 1075)
 
 -- ---- the root of a positive double, by its value
+-- a units of 2 ^ -1126, in units of 4 ^ -1074
+pub in-fourths : (m a : ℕ) (e : ℤ) → m * up e * 2 ^ 1126 ≡ a * down e → inFourths m e ≡ a * 2 ^ 1022
+in-fourths m a e v =
+    ap (λ (z : ℕ). z / down e) (sym (mul-assoc (m * up e) (2 ^ 1126) (2 ^ 1022)) ∙ ap (λ (z : ℕ). z * 2 ^ 1022) v ∙ mul-right-comm a (down e) (2 ^ 1022))
+    ∙ mul-div-cancel (a * 2 ^ 1022) (down-pos e)
+
 sqrt-by-value : (x : Float) (a : ℕ) → 0 < a → HasValue x false a (2 ^ 1126) → sqrt x ≡ roundedRoot (a * 2 ^ 1022)
 unfolding sqrt
 sqrt-by-value nan a p v = absurd v
 sqrt-by-value (inf s) a p v = absurd v
 sqrt-by-value (fin true m e) a p v = absurd (true≢false (v .0))
 sqrt-by-value (fin false m e) a p v =
-    cond-no (eqb m 0) (fin false m e) (roundedRoot (m * up e * 2 ^ 2148 / down e)) (not-T (eqb m 0) (λ t. none m (up e) (2 ^ 1126) (a * down e) (mul-pos p (down-pos e)) (eqb→eq m 0 t) (v .1)))
-    ∙ ap roundedRoot
-    (ap (λ (z : ℕ). z / down e) (sym (mul-assoc (m * up e) (2 ^ 1126) (2 ^ 1022)) ∙ ap (λ (z : ℕ). z * 2 ^ 1022) (v .1) ∙ mul-right-comm a (down e) (2 ^ 1022))
-    ∙ mul-div-cancel (a * 2 ^ 1022) (down-pos e))
+    cond-no (eqb m 0) (fin false m e) (roundedRoot (inFourths m e)) (not-T (eqb m 0) (λ t. none m (up e) (2 ^ 1126) (a * down e) (mul-pos p (down-pos e)) (eqb→eq m 0 t) (v .1)))
+    ∙ ap roundedRoot (in-fourths m a e (v .1))
   where
     none : (m u w d : ℕ) → 0 < d → m ≡ 0 → m * u * w ≡ d → ⊥
     none m u w d h z e = omega (arith, ap (λ (x : ℕ). x * u * w) z)

@@ -1,7 +1,7 @@
 -- `root n` is the largest number whose square is at most n.
 use mathlib.Core.Path.{_≡_, refl}
 use Prim.Native.Nat.{ℕ, zero, suc, _+_, _*_, _/_, _^_, _≤_, _<_}
-use native.Mathlib.Nat.{mul-le-mul, mul-le-mul-right, lt-of-lt-of-le, lt-of-not-le, not-le-of-lt, pow-suc}
+use native.Mathlib.Nat.{mul-le-mul, mul-le-mul-right, lt-of-le-of-lt, lt-of-lt-of-le, lt-of-not-le, not-le-of-lt, pow-suc}
 use native.Mathlib.Omega.{arith}
 use mathlib.Core.Bool.{Bool, true, false, not, cond}
 use lib.Dec.{T, leb, leb→le, nleb→lt}
@@ -31,10 +31,21 @@ unfolding rootIn
 rootIn-is zero n h = record { low = omega arith; high = omega arith }
 rootIn-is (suc d) n h = digit (rootIn d (n / 4)) n (rootIn-is d (n / 4) (omega (arith, pow-suc 4 d)))
 
-four : (k : ℕ) → 4 ^ k ≡ 2 ^ k * 2 ^ k
+pub four : (k : ℕ) → 4 ^ k ≡ 2 ^ k * 2 ^ k
 four zero = refl
 four (suc k) = rw (pow-suc 4 k, pow-suc 2 k, four k) (omega arith)
 
 pub root-is : (n : ℕ) → IsRoot (root n) n
 unfolding root
 root-is n = rootIn-is (size n) n (rw four (lt-of-lt-of-le (size-lt n) (omega (arith, mul-le-mul-right (2 ^ size n) (pow-pos (size n))))))
+
+-- the root of n is one number
+pub root-unique : (r n : ℕ) → IsRoot r n → r ≡ root n
+root-unique r n f =
+    let g : IsRoot (root n) n = root-is n in
+    let a : r < root n + 1 = less-of-squares r (root n + 1) (lt-of-le-of-lt (f .low) (g .high)) in
+    let b : root n < r + 1 = less-of-squares (root n) (r + 1) (lt-of-le-of-lt (g .low) (f .high)) in
+    omega arith
+
+pub exact-root : (r n : ℕ) → r * r ≡ n → r ≡ root n
+exact-root r n e = root-unique r n (record { low = omega arith; high = omega arith })

@@ -4,6 +4,7 @@ pub mod Value
 pub mod Rounding
 pub mod Next
 pub mod Root
+pub mod Rounds
 pub mod Cases
 pub mod Constants
 pub mod Basic

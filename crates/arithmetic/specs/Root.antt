@@ -3,7 +3,7 @@ use mathlib.Core.Path.{_≡_, refl}
 use Prim.Native.Nat.{ℕ, zero, suc, _+_, _*_, _/_, _^_}
 use mathlib.Core.Bool.{true, false, cond}
 use lib.Dec.{leb, eqb}
-use lib.IntN.{pos, negsuc}
+use lib.IntN.{ℤ, pos, negsuc}
 use lib.Ieee.{Float, nan, inf, fin, binary64, up, down, size, round}
 
 -- The largest r with r * r ≤ n, for an n below 4 ^ d: the root of n / 4, doubled, with one more binary digit.
@@ -22,13 +22,17 @@ unfoldable pub roundedRoot : ℕ → Float
 unfolding root
 roundedRoot n = let r = root n in round binary64 false (2 * r + cond (eqb (r * r) n) 0 1) (2 ^ 1075)
 
+-- The double m * 2 ^ e in units of 4 ^ -1074, a whole number of them.
+abbrev pub inFourths : ℕ → ℤ → ℕ
+inFourths m e = m * up e * 2 ^ 2148 / down e
+
 -- A zero is its own root. Below zero, and for what is not finite, there is no rule.
 unfoldable pub sqrt : Float → Float
 unfolding roundedRoot
 sqrt nan = nan
 sqrt (inf s) = nan
 sqrt (fin true m e) = cond (eqb m 0) (fin true m e) nan
-sqrt (fin false m e) = cond (eqb m 0) (fin false m e) (roundedRoot (m * up e * 2 ^ 2148 / down e))
+sqrt (fin false m e) = cond (eqb m 0) (fin false m e) (roundedRoot (inFourths m e))
 
 -- ---- 2.25, 2, the smallest double above zero and the largest, whose root 0x1.fffffffffffffp511 is 2 ^ 512 less a bit
 quarter : sqrt (fin false 9 (negsuc 1)) ≡ fin false 3 (negsuc 0)

@@ -5,7 +5,8 @@ use crate::parts::parts;
 ghost use mathlib.Core.Path.{_≡_};
 ghost use Prim.Native.Nat.{_+_, _*_, _/_, _%_, _^_, _≤_, _<_};
 ghost use lib.Ieee.{binary64, ofBits};
-ghost use Rattle.arithmetic.specs.Root.{sqrt};
+ghost use Rattle.arithmetic.specs.Root.{root, sqrt};
+ghost use Rattle.arithmetic.specs.Rounds.{roundsIn, rounds};
 ghost use Rattle.arithmetic.specs.Doubles.{guarded};
 
 // A root being worked: the digits of the radicand that are to come, the digits of the root, and the remainder of what was taken in.
@@ -31,10 +32,17 @@ fn step(s: State) -> State
     }
 }
 
-// The root of a * 2^54, which has 54 digits, and the remainder.
-fn digits(a: u64) -> State
-    requires { ⌜ a < 2 ^ 54 ⌝ }
-    ensures { λ r. ⌜ (r .root * r .root + r .remainder ≡ a * 2 ^ 54) × (r .remainder ≤ 2 * r .root) × (r .root < 2 ^ 54) ⌝ }
+// A root in whole numbers, as its 54 digits or as a double's pattern, and the rounds that it took.
+struct Worked {
+    root: u64,
+    rounds: u64,
+}
+
+// The root of a * 2^54, one digit a round, up to the first round at which the square of the digits found is the whole radicand: no digit of it is to come, and no
+// remainder is left. While digits are to come the count need not be looked at: 27 rounds take them all in.
+fn digits(a: u64) -> Worked
+    requires { ⌜ (2 ^ 52 ≤ a) × (a < 2 ^ 54) ⌝ }
+    ensures { λ r. ⌜ (r .root ≡ root (a * 2 ^ 54)) × (r .rounds ≡ roundsIn (a * 2 ^ 54)) ⌝ }
 {
     let mut s = State {
         radicand: a,
@@ -42,35 +50,60 @@ fn digits(a: u64) -> State
         remainder: 0,
     };
     let mut rounds: u64 = 0;
-    while rounds < 54 {
+    while s.radicand > 0 || (s.remainder > 0 && rounds < 54) {
         s = step(s);
         rounds += 1;
     }
-    s
+    Worked {
+        root: s.root << (54 - rounds),
+        rounds: rounds,
+    }
 }
 
 // The root's pattern, by the pattern of a positive double. An odd exponent leaves a factor of 2 to the significand.
 // The 54th digit rounds: where it is 1 the root is not exact, since the radicand is even, so there is no tie.
-fn root_bits(b: u64) -> u64
+fn root_bits(b: u64) -> Worked
     requires { ⌜ (0 < b) × (b < 0x7ff0_0000_0000_0000) ⌝ }
-    ensures { λ r. ⌜ (r < 0x7ff0_0000_0000_0000) × (ofBits binary64 r ≡ sqrt (ofBits binary64 b)) ⌝ }
+    ensures { λ r. ⌜ (r .root < 0x7ff0_0000_0000_0000) × (ofBits binary64 (r .root) ≡ sqrt (ofBits binary64 b)) × (r .rounds ≡ rounds (ofBits binary64 b)) ⌝ }
 {
     let p = parts(b);
     let r = digits(p.sig << (p.exp % 2));
-    (p.exp / 2 + 485) * LEADING + (r.root + 1) / 2
+    Worked {
+        root: (p.exp / 2 + 485) * LEADING + (r.root + 1) / 2,
+        rounds: r.rounds,
+    }
 }
 
-// The double nearest to the root. A zero is its own root; below zero, and for what is not finite, there is no rule.
-pub fn sqrt(v: f64) -> f64
-    ensures { λ r. ⌜ r ≡ guarded .sqrt v ⌝ }
+// A root, and the rounds that it took.
+pub struct Counted {
+    pub root: f64,
+    pub rounds: u64,
+}
+
+// The double nearest to the root, with the rounds counted. A zero is its own root and takes none; below zero, and for what is not finite, there is no rule.
+pub fn counted_sqrt(v: f64) -> Counted
+    ensures { λ r. ⌜ (r .root ≡ guarded .sqrt v) × (r .rounds ≡ rounds v) ⌝ }
 {
     if v == 0.0 {
-        return v;
+        return Counted { root: v, rounds: 0 };
     }
     if v > 0.0 {
         if is_finite(v) {
-            return f64::from_bits(root_bits(f64::to_bits(v)));
+            let r = root_bits(f64::to_bits(v));
+            return Counted {
+                root: f64::from_bits(r.root),
+                rounds: r.rounds,
+            };
         }
     }
-    0.0 / 0.0
+    Counted {
+        root: 0.0 / 0.0,
+        rounds: 0,
+    }
+}
+
+pub fn sqrt(v: f64) -> f64
+    ensures { λ r. ⌜ r ≡ guarded .sqrt v ⌝ }
+{
+    counted_sqrt(v).root
 }

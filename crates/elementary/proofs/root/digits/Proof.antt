@@ -1,48 +1,72 @@
--- The loop's invariant: after i rounds the root has i digits, and its square and the remainder are the 2 * i digits of a that were taken in.
-use mathlib.Core.Path.{_≡_, ap}
-use Prim.Native.Nat.{ℕ, _+_, _-_, _*_, _^_, _≤_, _<_}
-use native.Mathlib.Nat.{lt-of-lt-of-le, pow-suc}
-use native.Mathlib.Numerals.{add-one}
+-- The loop keeps what proofs/RootDigits.antt of crate arithmetic says of the rounds, and its test tells whether the square of the digits found is the whole radicand.
+use mathlib.Core.Path.{_≡_, sym, _∙_}
+use Prim.Native.Nat.{_+_, _-_, _≤_, _<_}
 use native.Mathlib.Omega.{arith}
-use lib.Pow.{pow-mono}
+use mathlib.Core.Logic.{_⊎_, inl, inr, ⊎-elim}
+use borrow.Author.Tests.{ltb-true, ltb-false}
+use Rattle.arithmetic.proofs.RootDigits.{Found, Onward, none-found, root-below, early, another, onward, ends}
 use Rattle.elementary.proofs.root.digits.Statement.{statement}
 use Rattle.elementary.proofs.root.digits.Tie as tie
 
-abbrev Inv-loop : tie.InvT-loop
-Inv-loop a s₀ i₀ s i =
-    (i ≤ 54) × (s .root < 2 ^ i) × (s .remainder ≤ 2 * s .root) × (s .radicand < 2 ^ 54) × ((s .root * s .root + s .remainder) * 2 ^ 54 + s .radicand ≡ a * 4 ^ i)
+abbrev Inv : tie.InvT-loop
+Inv a s₀ rounds₀ s rounds = Found a rounds (s .radicand) (s .root) (s .remainder) × Onward a rounds
 
-abbrev μ-loop : tie.MeasureT-loop
-μ-loop a s₀ i₀ s i = 54 - i
+abbrev μ : tie.MeasureT-loop
+μ a s₀ rounds₀ s rounds = 54 - rounds
 
-below : (root i : ℕ) → i ≤ 54 → root < 2 ^ i → root < 2 ^ 54
-below root i h r = lt-of-lt-of-le r (pow-mono h)
+goes-on : (c : tie.Joined1 Inv μ) → let l = c .before .before .loop in (l .rounds < 54) × (0 < l .s .radicand + l .s .remainder)
+goes-on c =
+    let l = c .before .before .loop in
+    ⊎-elim
+    (λ w. (omega (arith, early _ _ _ _ _ (l .inv .0) (w .taken)), omega (arith, w .taken)))
+    (λ w. ⊎-elim
+    (λ v. (ltb-true (l .rounds) 54 (sym (v .1) ∙ w .3 .taken), omega (arith, v .0 .taken)))
+    (λ v. absurd (omega (arith, v .0 .left, ltb-true 0 (l .s .remainder) (sym (v .1) ∙ w .3 .taken))))
+    (w .2 .came))
+    (c .if1 .came)
 
-loop-holds : tie.Need-loop-holds Inv-loop μ-loop
-loop-holds c = (omega arith, omega arith, omega arith, c .pre, omega arith)
+leaves : (c : tie.Else3 Inv μ) → let l = c .before .before .before .before .before .loop in (l .s .radicand + l .s .remainder ≡ 0) ⊎ (54 ≤ l .rounds)
+leaves c =
+    ⊎-elim
+    (λ v. inr (ltb-false _ 54 (sym (v .1) ∙ c .if3 .left)))
+    (λ v. inl (omega (arith, v .0 .left, c .before .before .before .if1 .left)))
+    (c .before .if2 .came)
 
-step-requires : tie.Need-step-requires Inv-loop μ-loop
-step-requires c κs =
-    let l = c .before .loop in
-    (l .inv .3, below (l .s .root) (l .rounds) (l .inv .0) (l .inv .1), l .inv .2)
+loop-holds : tie.Need-loop-holds Inv μ
+loop-holds c = none-found (c .args .a) (c .pre .1)
 
-add-rounds : tie.Need-add-rounds Inv-loop μ-loop
-add-rounds c = omega arith
+step-requires : tie.Need-step-requires Inv μ
+step-requires c κs = let f = c .before .before .loop .inv .0 in (f .to-come, root-below _ _ _ _ _ f, f .left)
 
-loop-less : tie.Need-loop-less Inv-loop μ-loop
-loop-less c = omega arith
+add-rounds : tie.Need-add-rounds Inv μ
+add-rounds c = omega (arith, goes-on (c .before) .0)
 
-loop-again : tie.Need-loop-again Inv-loop μ-loop
+loop-less : tie.Need-loop-less Inv μ
+loop-less c = omega (arith, goes-on (c .before) .0)
+
+loop-again : tie.Need-loop-again Inv μ
 loop-again c =
-    let i = c .before .before .loop .rounds in
-    rw (add-one i, pow-suc 2 i, pow-suc 4 i) (omega arith, omega arith, omega arith, omega arith, omega arith)
+    let l = c .before .before .before .loop in
+    let pre = c .before .before .before .before .pre in
+    let r = c .step in
+    let e = r .ensures in
+    let g = goes-on (c .before) in (
+      another _ _ _ _ _ (l .inv .0) (r .result .radicand) (r .result .root) (r .result .remainder) (g .0) (e .0) (e .1) (e .2) (e .3),
+      onward _ _ _ _ _ (l .inv .0) (pre .0) (pre .1) (g .0) (g .1) (l .inv .1),
+    )
 
-returns : tie.Need-returns Inv-loop μ-loop
+sub-t7 : tie.Need-sub-t7 Inv μ
+sub-t7 c = c .before .before .before .before .before .loop .inv .0 .few
+
+shl-t8 : tie.Need-shl-t8 Inv μ
+shl-t8 c = omega arith
+
+returns : tie.Need-returns Inv μ
 returns c =
-    let l = c .before .loop in
-    let e : l .rounds ≡ 54 = omega arith in
-    let all = ap (λ (i : ℕ). c .before .before .args .a * 4 ^ i) e in
-    (omega arith, l .inv .2, below (l .s .root) (l .rounds) (l .inv .0) (l .inv .1))
+    let d = c .before in
+    let l = d .before .before .before .before .before .loop in
+    let pre = d .before .before .before .before .before .before .pre in
+    ends _ _ _ _ _ (l .inv .0) (pre .0) (pre .1) (l .inv .1) (leaves d)
 
 pub digits-spec : {M : Type 1} → statement M
-digits-spec = tie.close (tie.spec Inv-loop μ-loop loop-holds step-requires add-rounds loop-less loop-again returns)
+digits-spec = tie.close (tie.spec Inv μ loop-holds step-requires add-rounds loop-less loop-again sub-t7 shl-t8 returns)
