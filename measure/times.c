@@ -20,6 +20,10 @@ struct Row {
 
 static struct Row rows[] = {
     {.name = "sqrt, 0.1 to 100", .low = 0.1, .high = 100, .ours = noddyfir_sqrt, .library = sqrt},
+    {.name = "sqrt of 2", .low = 2, .high = 2, .ours = noddyfir_sqrt, .library = sqrt},
+    {.name = "sqrt of 6 x 6", .low = 36, .high = 36, .ours = noddyfir_sqrt, .library = sqrt},
+    {.name = "sqrt of 9 x 16", .low = 144, .high = 144, .ours = noddyfir_sqrt, .library = sqrt},
+    {.name = "sqrt of 100 x 400", .low = 40000, .high = 40000, .ours = noddyfir_sqrt, .library = sqrt},
     {.name = "ln, 0.1 to 100", .low = 0.1, .high = 100, .ours = noddyfir_ln, .library = log},
     {.name = "ln_1p, -0.25 to 0.25", .low = -0.25, .high = 0.25, .ours = noddyfir_ln_1p, .library = log1p},
     {.name = "ln_1p, 0.25 to 10", .low = 0.25, .high = 10, .ours = noddyfir_ln_1p, .library = log1p},

@@ -102,6 +102,7 @@ pub fn counted_sqrt(v: f64) -> Counted
     }
 }
 
+// The double nearest to the root.
 pub fn sqrt(v: f64) -> f64
     ensures { λ r. ⌜ r ≡ guarded .sqrt v ⌝ }
 {

@@ -8,10 +8,12 @@ use elementary::logarithm::ln;
 use elementary::logarithm::ln_1p;
 use elementary::next::next_down;
 use elementary::next::next_up;
+use elementary::root::counted_sqrt;
 use elementary::root::sqrt;
 ghost use mathlib.Core.Path.{_≡_};
 ghost use lib.Ieee.{binary64};
 ghost use Rattle.arithmetic.specs.Next.{nextUp, nextDown};
+ghost use Rattle.arithmetic.specs.Rounds.{rounds};
 ghost use Rattle.arithmetic.specs.Doubles.{guarded, whereFinite};
 
 #[no_mangle]
@@ -33,6 +35,13 @@ pub extern "C" fn noddyfir_sqrt(v: f64) -> f64
     ensures { λ r. ⌜ r ≡ guarded .sqrt v ⌝ }
 {
     sqrt(v)
+}
+
+#[no_mangle]
+pub extern "C" fn noddyfir_sqrt_rounds(v: f64) -> u64
+    ensures { λ r. ⌜ r ≡ rounds v ⌝ }
+{
+    counted_sqrt(v).rounds
 }
 
 #[no_mangle]
