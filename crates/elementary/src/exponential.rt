@@ -1,8 +1,8 @@
 // exp, powf and tanh by the recipes of document 01.
-use crate::basic::div;
-use crate::basic::horner;
-use crate::basic::is_finite;
 use crate::logarithm::ln;
+use crate::series::horner;
+use operations::basic::div;
+use operations::basic::is_finite;
 ghost use mathlib.Core.Path.{_≡_};
 ghost use mathlib.Core.Bool.{false};
 ghost use lib.Dec.{T};

@@ -1,8 +1,8 @@
 // ln and ln_1p by the recipes of document 01.
-use crate::basic::div;
-use crate::basic::horner;
-use crate::basic::is_finite;
-use crate::parts::parts;
+use crate::series::horner;
+use operations::basic::div;
+use operations::basic::is_finite;
+use operations::parts::parts;
 ghost use mathlib.Core.Path.{_≡_};
 ghost use mathlib.Core.Bool.{false};
 ghost use mathlib.Core.Option.{some};

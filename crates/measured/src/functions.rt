@@ -1,15 +1,15 @@
 // The functions under C names, for the measurements: each is what it calls, and has its contract.
-use elementary::basic::div;
-use elementary::basic::powi;
 use elementary::exponential::exp;
 use elementary::exponential::powf;
 use elementary::exponential::tanh;
 use elementary::logarithm::ln;
 use elementary::logarithm::ln_1p;
-use elementary::next::next_down;
-use elementary::next::next_up;
-use elementary::root::counted_sqrt;
-use elementary::root::sqrt;
+use operations::basic::div;
+use operations::basic::powi;
+use operations::next::next_down;
+use operations::next::next_up;
+use operations::root::counted_sqrt;
+use operations::root::sqrt;
 ghost use mathlib.Core.Path.{_≡_};
 ghost use lib.Ieee.{binary64};
 ghost use Rattle.arithmetic.specs.Next.{nextUp, nextDown};

@@ -1,5 +1,5 @@
 // Every method under two C names, one for each end of the result, for the comparison with an independent implementation of the rules (measure/ranges.py).
-use elementary::basic::is_finite;
+use operations::basic::is_finite;
 use range::basic::Range;
 use range::basic::failed;
 ghost use mathlib.Core.Path.{_≡_};

@@ -10,8 +10,8 @@ use case_record::answer::write_ends;
 use case_record::case::Case;
 use case_record::case::case_of;
 use case_record::checks::refusal;
-use elementary::basic::is_finite;
 use eos::doubles::contributions;
+use operations::basic::is_finite;
 
 // The energies of a case whose record the checks pass, or code 9.
 fn energies_of(c: Case) -> Energies

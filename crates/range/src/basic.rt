@@ -1,8 +1,8 @@
 // The struct of two ends, and the rules of negation, sum, difference, product, quotient, power, root and the case at a threshold.
-use elementary::basic::is_finite;
-use elementary::next::next_down;
-use elementary::next::next_up;
-use elementary::root::sqrt;
+use operations::basic::is_finite;
+use operations::next::next_down;
+use operations::next::next_up;
+use operations::root::sqrt;
 ghost use mathlib.Core.Path.{_≡_};
 ghost use lib.Ieee as Ieee;
 ghost use lib.Dec.{T};

@@ -1,8 +1,8 @@
 // hard_sphere/mod.rs, MonomerShape::Spherical: the hard-sphere term.
 use crate::consts::FRAC_PI_6;
 use crate::parameters::State;
-use elementary::basic::div;
 use elementary::logarithm::ln_1p;
+use operations::basic::div;
 ghost use mathlib.Core.Path.{_≡_};
 ghost use Prim.Native.Nat.{_≤_};
 ghost use Rattle.arithmetic.specs.Doubles.{guarded};

@@ -1,8 +1,8 @@
 // one_fluid_properties, which bh/attractive_perturbation.rs and wca/attractive_perturbation.rs have word for word, and the sums over pairs of the virial coefficients.
 use crate::parameters::Combined;
-use elementary::basic::div;
-use elementary::basic::powi;
 use elementary::exponential::powf;
+use operations::basic::div;
+use operations::basic::powi;
 ghost use mathlib.Core.Path.{_≡_};
 ghost use Prim.Native.Nat.{_≤_};
 ghost use Rattle.arithmetic.specs.Doubles.{guarded};

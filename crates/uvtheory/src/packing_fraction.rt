@@ -1,6 +1,6 @@
 // The packing fractions, which bh/hard_sphere.rs and wca/hard_sphere.rs have word for word but for tau and the tables.
 use crate::consts::PI;
-use elementary::basic::div;
+use operations::basic::div;
 ghost use mathlib.Core.Path.{_≡_};
 ghost use Prim.Native.Nat.{_≤_};
 ghost use Rattle.arithmetic.specs.Doubles.{guarded};

@@ -1,7 +1,7 @@
 // uvtheory/parameters.rs: the parameters of a mixture, and `mie_prefactor`, `mean_field_constant` and `bh_coefficients`.
-use elementary::basic::div;
 use elementary::exponential::powf;
-use elementary::root::sqrt;
+use operations::basic::div;
+use operations::root::sqrt;
 ghost use mathlib.Core.Path.{_≡_};
 ghost use mathlib.Core.List.{[], _∷_};
 ghost use Prim.Native.Nat.{_≤_, _<_};

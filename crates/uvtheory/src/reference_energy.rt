@@ -1,6 +1,6 @@
 // The last line of the three reference perturbations: the energy by the sum a over all pairs and the density.
 use crate::consts::PI;
-use elementary::basic::div;
+use operations::basic::div;
 ghost use mathlib.Core.Path.{_≡_};
 ghost use Rattle.arithmetic.specs.Doubles.{guarded};
 ghost use Rattle.uvtheory.specs.ReferenceEnergy as F;

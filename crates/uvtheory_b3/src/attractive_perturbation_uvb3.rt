@@ -1,9 +1,9 @@
 // uvtheory/eos/wca/attractive_perturbation_uvb3.rs: the attractive perturbation of WCA-B3.
-use elementary::basic::div;
-use elementary::basic::is_finite;
 use elementary::exponential::exp;
 use elementary::exponential::powf;
 use elementary::exponential::tanh;
+use operations::basic::div;
+use operations::basic::is_finite;
 use uvtheory::consts::PI;
 use uvtheory::one_fluid::OneFluid;
 use uvtheory::one_fluid::mean_cube;

@@ -1,10 +1,10 @@
 // uvtheory/eos/bh/attractive_perturbation.rs: the attractive perturbation by Barker-Henderson.
-use elementary::basic::div;
 use elementary::exponential::exp;
 use elementary::exponential::powf;
 use elementary::exponential::tanh;
 use elementary::logarithm::ln;
-use elementary::root::sqrt;
+use operations::basic::div;
+use operations::root::sqrt;
 use uvtheory::consts::FRAC_PI_3;
 use uvtheory::consts::PI;
 use uvtheory::one_fluid::OneFluid;

@@ -1,7 +1,7 @@
 // uvtheory/eos/bh/hard_sphere.rs: diameters by Barker-Henderson, and the tau of its packing fractions.
-use elementary::basic::div;
 use elementary::exponential::powf;
 use elementary::logarithm::ln;
+use operations::basic::div;
 use uvtheory::parameters::Mixture;
 use uvtheory::parameters::bh_coefficients;
 use uvtheory::parameters::inv_a76;

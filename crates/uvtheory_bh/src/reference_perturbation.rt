@@ -2,7 +2,7 @@
 use crate::hard_sphere::BH_CONSTANTS_ETA_A;
 use crate::hard_sphere::BH_CONSTANTS_ETA_B;
 use crate::hard_sphere::tau;
-use elementary::basic::div;
+use operations::basic::div;
 use uvtheory::packing_fraction::packing_fraction;
 use uvtheory::packing_fraction::packing_fraction_a;
 use uvtheory::packing_fraction::packing_fraction_b;

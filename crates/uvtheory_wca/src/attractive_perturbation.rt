@@ -2,10 +2,10 @@
 use crate::hard_sphere::LengthTables;
 use crate::hard_sphere::q_of;
 use crate::hard_sphere::rm_of;
-use elementary::basic::div;
 use elementary::exponential::exp;
 use elementary::exponential::powf;
 use elementary::exponential::tanh;
+use operations::basic::div;
 use uvtheory::consts::PI;
 use uvtheory::one_fluid::OneFluid;
 use uvtheory::one_fluid::mean_cube;

@@ -1,7 +1,7 @@
 // uvtheory/eos/wca/hard_sphere.rs: diameters and lengths by Weeks, Chandler and Andersen.
-use elementary::basic::div;
 use elementary::exponential::powf;
-use elementary::root::sqrt;
+use operations::basic::div;
+use operations::root::sqrt;
 use uvtheory::consts::PI;
 use uvtheory::parameters::Combined;
 use uvtheory::parameters::Mixture;

@@ -1,9 +1,0 @@
-use Rattle.arithmetic.proofs.Tests.{finite-is}
-use Rattle.elementary.proofs.basic.is_finite.Statement.{statement}
-use Rattle.elementary.proofs.basic.is_finite.Tie as tie
-
-returns : tie.Need-returns
-returns c = finite-is (c .args .x)
-
-pub is-finite-spec : {M : Type 1} → statement M
-is-finite-spec = tie.close (tie.spec returns)
