@@ -1,4 +1,4 @@
-// The functions of crate elementary under their C names (crates/measured/src/functions.rt), and document 01's functions in plain C (recipes.c)
+// The functions of crates operations and elementary under their C names (crates/measured/src/functions.rt), and document 01's functions in plain C (recipes.c)
 // under the same names with another prefix.
 #include <stdint.h>
 
