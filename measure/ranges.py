@@ -1,5 +1,5 @@
 #!/usr/bin/env python3
-"""Compares every compiled method of crate range, bit for bit, with document 01's rules in whole numbers (range_rules.py).
+"""Compares every compiled operation of ranges, bit for bit, with document 01's rules in whole numbers (range_rules.py).
 
 measure/ranges.py          345,160 operand pairs for each basic operation, 50,760 for each elementary function (772 more for powf)
 measure/ranges.py --quick  12,000 and 2,500
@@ -27,8 +27,8 @@ from range_rules import INFINITY, LARGEST, NAN, ONE, SIGN, double_of, is_finite,
 HERE = Path(__file__).resolve().parent
 TARGET = HERE.parent / "target"
 
-# The methods in the order of their numbers (crates/measured/specs/Applied.antt), with the rule of each.
-METHODS = {
+# The operations in the order of their numbers (crates/measured/specs/Applied.antt), with the rule of each.
+OPERATIONS = {
     "neg": lambda k, t, a, b: rules.neg(a),
     "add": lambda k, t, a, b: rules.add(a, b),
     "sub": lambda k, t, a, b: rules.sub(a, b),
@@ -49,7 +49,7 @@ OF_TWO = {"add", "sub", "mul", "div", "powf"}
 FAILED = (NAN, NAN)
 
 
-# ---- the compiled methods
+# ---- the compiled operations
 
 
 def build():
@@ -63,7 +63,7 @@ def build():
     return shared
 
 
-def compiled_methods(shared):
+def compiled_operations(shared):
     library = ctypes.CDLL(str(shared))
     functions = (library.noddyfir_range_lower, library.noddyfir_range_upper)
     for f in functions:
@@ -187,7 +187,7 @@ def compare(call, op, name, crossed, count):
     results = set()
     for k, t, a, b in Operands(op).of(name, crossed, count):
         try:
-            expected = METHODS[name](k, t, a, b)
+            expected = OPERATIONS[name](k, t, a, b)
         except rules.Fails:
             expected = FAILED
         total += 1
@@ -204,8 +204,8 @@ def compare(call, op, name, crossed, count):
 
 
 def differences(call, quick):
-    """Of each method in turn."""
-    for op, name in enumerate(METHODS):
+    """Of each operation in turn."""
+    for op, name in enumerate(OPERATIONS):
         if name in ELEMENTARY:
             yield compare(call, op, name, *((240, 1500) if quick else (10000, 40000)))
         else:
@@ -232,7 +232,7 @@ def see_slips(call):
 
 
 def main():
-    call = compiled_methods(build())
+    call = compiled_operations(build())
     if sys.argv[1:] == ["--slips"]:
         return see_slips(call)
     started = time.monotonic()

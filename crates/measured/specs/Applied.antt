@@ -1,4 +1,4 @@
--- The methods by number, for callers that pass numbers only (src/ranges.rt).
+-- The operations of ranges by number, for callers that pass numbers only (src/ranges.rt).
 use Prim.Native.Nat.{ℕ}
 use mathlib.Core.Bool.{cond}
 use mathlib.Core.List.{List, [], _∷_}
@@ -17,9 +17,9 @@ whereBelow t a b = cond (finite t) (ranges .ifBelow a t a b) failed
 abbrev pub whereAbove : Float → Range → Range → Range
 whereAbove t a b = cond (finite t) (rules .test (above t) a a b) failed
 
--- each method of a, and of b where it takes two ranges; k is the exponent of powi
-abbrev pub methods : ℕ → Float → Range → Range → List Range
-methods k t a b =
+-- each operation of a, and of b where it takes two ranges; k is the exponent of powi
+abbrev pub operations : ℕ → Float → Range → Range → List Range
+operations k t a b =
     ranges .neg a
     ∷ ranges .add a b
     ∷ ranges .sub a b
@@ -36,6 +36,6 @@ methods k t a b =
     ∷ whereAbove t a b
     ∷ []
 
--- the method that op numbers, from 0 on; any other number has no rule
+-- the operation that op numbers, from 0 on; any other number has no rule
 unfoldable pub applied : ℕ → ℕ → Float → Range → Range → Range
-applied op k t a b = getD (methods k t a b) op failed
+applied op k t a b = getD (operations k t a b) op failed

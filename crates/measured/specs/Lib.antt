@@ -1,2 +1,2 @@
--- The methods of ranges by number.
+-- The operations of ranges by number.
 pub mod Applied

@@ -1,7 +1,12 @@
-// Every method under two C names, one for each end of the result, for the comparison with an independent implementation of the rules (measure/ranges.py).
+// Every operation of ranges under two C names, one for each end of the result, for the comparison with an independent implementation of the rules (measure/ranges.py).
 use operations::basic::is_finite;
 use range::basic::Range;
 use range::basic::failed;
+use range::exponential::exp;
+use range::exponential::powf;
+use range::exponential::tanh;
+use range::logarithm::ln;
+use range::logarithm::ln_1p;
 ghost use mathlib.Core.Path.{_≡_};
 ghost use Rattle.range.specs.Rules as Rules;
 ghost use Rattle.measured.specs.Applied.{applied, whereBelow, whereAbove};
@@ -26,7 +31,7 @@ fn where_above(t: f64, a: Range, b: Range) -> Range
     failed()
 }
 
-// The method that op numbers, of a, and of b where it takes two ranges. The exponent of powi is k; t is the limit of the last two.
+// The operation that op numbers, of a, and of b where it takes two ranges. The exponent of powi is k; t is the limit of the last two.
 fn apply(op: u64, k: u64, t: f64, a: Range, b: Range) -> Range
     ensures { λ r. ⌜ r ≡ applied op k t a b ⌝ }
 {
@@ -38,11 +43,11 @@ fn apply(op: u64, k: u64, t: f64, a: Range, b: Range) -> Range
         4 => a.div(b),
         5 => a.powi(k),
         6 => a.sqrt(),
-        7 => a.ln(),
-        8 => a.ln_1p(),
-        9 => a.exp(),
-        10 => a.powf(b),
-        11 => a.tanh(),
+        7 => ln(a),
+        8 => ln_1p(a),
+        9 => exp(a),
+        10 => powf(a, b),
+        11 => tanh(a),
         12 => where_below(t, a, b),
         13 => where_above(t, a, b),
         _ => failed(),

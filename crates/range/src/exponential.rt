@@ -2,6 +2,7 @@
 use crate::basic::Range;
 use crate::basic::ends;
 use crate::basic::failed;
+use crate::logarithm::ln;
 use crate::series::horner;
 use elementary::exponential::E;
 use elementary::exponential::FACTORIALS;
@@ -102,52 +103,50 @@ fn is_moderate(b: Range) -> bool
     false
 }
 
-impl Range {
-    // What a moderate power of [1, 1] is: the doubles before and after 1.
-    const AROUND_ONE: Range = Range {
-        lower: 0.9999999999999999,
-        upper: 1.0000000000000002,
-    };
+// What a moderate power of [1, 1] is: the doubles before and after 1.
+const AROUND_ONE: Range = Range {
+    lower: 0.9999999999999999,
+    upper: 1.0000000000000002,
+};
 
-    // Whether it is [1, 1].
-    fn is_one(self) -> bool
-        ensures { λ r. ⌜ r ≡ (eq (self .lower) K.one && eq (self .upper) K.one) ⌝ }
-    {
-        if self.lower == 1.0 {
-            return self.upper == 1.0;
+// Whether it is [1, 1].
+fn is_one(v: Range) -> bool
+    ensures { λ r. ⌜ r ≡ (eq (v .lower) K.one && eq (v .upper) K.one) ⌝ }
+{
+    if v.lower == 1.0 {
+        return v.upper == 1.0;
+    }
+    false
+}
+
+// e^v. Below -700 it is 0; above 700 there is no rule.
+pub fn exp(v: Range) -> Range
+    ensures { λ r. ⌜ r ≡ ranges .exp v ⌝ }
+{
+    let upper = v.if_above(700.0, failed(), exp_between(v));
+    v.if_below(-700.0, Range::ZERO, upper)
+}
+
+// v^b, as exp(b * ln v). A base of 0 gives 0 where b is above 0.
+// A moderate power of [1, 1] is known, and is not worked: its logarithm has ends on either side of 0, for which no shorter way serves, and subnormal ones.
+pub fn powf(v: Range, b: Range) -> Range
+    ensures { λ r. ⌜ r ≡ ranges .powf v b ⌝ }
+{
+    if is_one(v) {
+        if is_moderate(b) {
+            return AROUND_ONE;
         }
-        false
     }
+    let zero = b.if_above(0.0, Range::ZERO, failed());
+    let other = v.if_below(0.0, failed(), zero);
+    v.if_above(0.0, exp(b.mul(ln(v))), other)
+}
 
-    // e^v. Below -700 it is 0; above 700 there is no rule.
-    pub fn exp(self) -> Range
-        ensures { λ r. ⌜ r ≡ ranges .exp self ⌝ }
-    {
-        let upper = self.if_above(700.0, failed(), exp_between(self));
-        self.if_below(-700.0, Range::ZERO, upper)
-    }
-
-    // v^b, as exp(b * ln v). A base of 0 gives 0 where b is above 0.
-    // A moderate power of [1, 1] is known, and is not worked: its logarithm has ends on either side of 0, for which no shorter way serves, and subnormal ones.
-    pub fn powf(self, b: Range) -> Range
-        ensures { λ r. ⌜ r ≡ ranges .powf self b ⌝ }
-    {
-        if self.is_one() {
-            if is_moderate(b) {
-                return Range::AROUND_ONE;
-            }
-        }
-        let zero = b.if_above(0.0, Range::ZERO, failed());
-        let other = self.if_below(0.0, failed(), zero);
-        self.if_above(0.0, b.mul(self.ln()).exp(), other)
-    }
-
-    pub fn tanh(self) -> Range
-        ensures { λ r. ⌜ r ≡ ranges .tanh self ⌝ }
-    {
-        let two = Range::point(2.0);
-        let inner = Range::ONE.sub(two.div(two.mul(self).exp().add(Range::ONE)));
-        let lower = self.if_below(-20.0, Range::point(-1.0), inner);
-        self.if_above(20.0, Range::ONE, lower)
-    }
+pub fn tanh(v: Range) -> Range
+    ensures { λ r. ⌜ r ≡ ranges .tanh v ⌝ }
+{
+    let two = Range::point(2.0);
+    let inner = Range::ONE.sub(two.div(exp(two.mul(v)).add(Range::ONE)));
+    let lower = v.if_below(-20.0, Range::point(-1.0), inner);
+    v.if_above(20.0, Range::ONE, lower)
 }

@@ -27,40 +27,38 @@ fn ln_of(m: Range, e: i64) -> Range
     series(s).add(Range::point(e as f64).mul(Range::point(L)))
 }
 
-impl Range {
-    // The natural logarithm of a range above 0, both of whose ends have one e.
-    pub fn ln(self) -> Range
-        ensures { λ r. ⌜ r ≡ ranges .ln self ⌝ }
-    {
-        if !self.is_ok() {
-            return failed();
-        }
-        if self.lower <= 0.0 {
-            return failed();
-        }
-        if self.upper <= 0.0 {
-            return failed();
-        }
-        let a = split(f64::to_bits(self.lower));
-        let b = split(f64::to_bits(self.upper));
-        if a.e != b.e {
-            return failed();
-        }
-        let m = Range {
-            lower: a.m,
-            upper: b.m,
-        };
-        ln_of(m, a.e)
+// The natural logarithm of a range above 0, both of whose ends have one e.
+pub fn ln(v: Range) -> Range
+    ensures { λ r. ⌜ r ≡ ranges .ln v ⌝ }
+{
+    if !v.is_ok() {
+        return failed();
     }
+    if v.lower <= 0.0 {
+        return failed();
+    }
+    if v.upper <= 0.0 {
+        return failed();
+    }
+    let a = split(f64::to_bits(v.lower));
+    let b = split(f64::to_bits(v.upper));
+    if a.e != b.e {
+        return failed();
+    }
+    let m = Range {
+        lower: a.m,
+        upper: b.m,
+    };
+    ln_of(m, a.e)
+}
 
-    // The natural logarithm of 1 + v.
-    pub fn ln_1p(self) -> Range
-        ensures { λ r. ⌜ r ≡ ranges .ln1p self ⌝ }
-    {
-        let ln = Range::ONE.add(self).ln();
-        let near = series(self.div(Range::point(2.0).add(self)));
-        let below = self.if_above(-1.0, ln, failed());
-        let within = self.if_above(0.25, ln, near);
-        self.if_below(-0.25, below, within)
-    }
+// The natural logarithm of 1 + v.
+pub fn ln_1p(v: Range) -> Range
+    ensures { λ r. ⌜ r ≡ ranges .ln1p v ⌝ }
+{
+    let far = ln(Range::ONE.add(v));
+    let near = series(v.div(Range::point(2.0).add(v)));
+    let below = v.if_above(-1.0, far, failed());
+    let within = v.if_above(0.25, far, near);
+    v.if_below(-0.25, below, within)
 }

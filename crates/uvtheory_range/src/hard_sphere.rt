@@ -1,5 +1,6 @@
 // hard_sphere/mod.rs, MonomerShape::Spherical, on ranges: the hard-sphere term.
 use range::basic::Range;
+use range::logarithm::ln_1p;
 use uvtheory::consts::FRAC_PI_6;
 use uvtheory::parameters::State;
 ghost use mathlib.Core.Path.{_≡_};
@@ -53,7 +54,7 @@ pub fn bmcsl(z0: Range, z1: Range, z2: Range, z3: Range, density: Range) -> Rang
     let c = zeta2
         .mul(zeta_23.powi(2))
         .sub(zeta0)
-        .mul(zeta3.neg().ln_1p());
+        .mul(ln_1p(zeta3.neg()));
     a.add(b).add(c).div(Range::point(FRAC_PI_6))
 }
 

@@ -1,6 +1,7 @@
 // one_fluid_properties on ranges, and the sums over pairs of the virial coefficients.
 use crate::parameters::Combined;
 use range::basic::Range;
+use range::exponential::powf;
 ghost use mathlib.Core.Path.{_≡_};
 ghost use Prim.Native.Nat.{_≤_};
 ghost use Rattle.range.specs.Rules.{ranges};
@@ -79,7 +80,7 @@ pub fn virial_sum(n: usize, x: &[f64; 8], sigma_ij: [Range; 64], k: u64, f: [Ran
 pub fn cube_root(v: Range) -> Range
     ensures { λ r. ⌜ r ≡ F.cube-root ranges v ⌝ }
 {
-    v.powf(Range::ONE.div(Range::point(3.0)))
+    powf(v, Range::ONE.div(Range::point(3.0)))
 }
 
 pub fn one_fluid_properties(

@@ -1,5 +1,6 @@
 // uvtheory/parameters.rs on ranges: the combined parameters of a mixture, and `mie_prefactor`, `mean_field_constant` and `bh_coefficients`.
 use range::basic::Range;
+use range::exponential::powf;
 use uvtheory::parameters::CD_BH;
 use uvtheory::parameters::Mixture;
 use uvtheory::parameters::place;
@@ -32,7 +33,7 @@ pub fn mie_prefactor(rep: Range, att: Range) -> Range
     ensures { λ r. ⌜ r ≡ F.mie-prefactor ranges rep att ⌝ }
 {
     let d = rep.sub(att);
-    rep.div(d).mul(rep.div(att).powf(att.div(d)))
+    rep.div(d).mul(powf(rep.div(att), att.div(d)))
 }
 
 // The mean-field constant, by the prefactor c of rep and att.
@@ -40,8 +41,8 @@ pub fn mean_field_of(c: Range, rep: Range, att: Range, x: Range) -> Range
     ensures { λ r. ⌜ r ≡ F.mean-field-of ranges c rep att x ⌝ }
 {
     let three = Range::point(3.0);
-    let a = x.powf(att.neg().add(three)).div(att.sub(three));
-    let r = x.powf(rep.neg().add(three)).div(rep.sub(three));
+    let a = powf(x, att.neg().add(three)).div(att.sub(three));
+    let r = powf(x, rep.neg().add(three)).div(rep.sub(three));
     c.mul(a.sub(r))
 }
 

@@ -1,5 +1,8 @@
 // uvtheory/eos/wca/attractive_perturbation_uvb3.rs on ranges: the attractive perturbation of WCA-B3.
 use range::basic::Range;
+use range::exponential::exp;
+use range::exponential::powf;
+use range::exponential::tanh;
 use uvtheory::consts::PI;
 use uvtheory::parameters::Mixture;
 use uvtheory::parameters::State;
@@ -45,7 +48,7 @@ fn omega(t_x: Range, e: Range) -> Range
     ensures { λ r. ⌜ r ≡ F.omega ranges «t_x» e ⌝ }
 {
     let one = Range::ONE;
-    let c = one.div(t_x.mul(Range::point(CU_WCA[7])).tanh()).sub(one);
+    let c = one.div(tanh(t_x.mul(Range::point(CU_WCA[7])))).sub(one);
     let low = e.mul(c.powi(2));
     t_x.if_below(175.0, low, e.mul(Range::ZERO))
 }
@@ -55,12 +58,12 @@ fn u_fraction_wca(rep_x: Range, reduced_density: Range, t_x: Range) -> Range
 {
     let one = Range::ONE;
     let s = reduced_density.sub(Range::point(CU_WCA[6]));
-    let e = t_x.neg().mul(Range::point(CU_WCA[5])).mul(s.powi(2)).exp();
+    let e = exp(t_x.neg().mul(Range::point(CU_WCA[5])).mul(s.powi(2)));
     let over = one.div(rep_x.add(Range::point(CU_WCA[4])));
     let c = over.mul(Range::point(CU_WCA[3]))
         .add(Range::point(CU_WCA[2]));
     let high = reduced_density.powi(2).mul(c);
-    high.add(omega(t_x, e)).neg().exp().neg().add(one)
+    exp(high.add(omega(t_x, e)).neg()).neg().add(one)
 }
 
 // A coefficient by its row of C_B2_RSAP, and the reciprocals of rep and its powers.
@@ -105,7 +108,7 @@ fn delta_b2_by(beta: Range, b: Range, c0: Range, c1: Range, c2: Range, c3: Range
         (ranges .mul (ranges .sub b c0) (ranges .sub (ranges .exp beta) (ranges .constant N.one)))
         (ranges .mul (F.sum-beta ranges 14 beta) c1)) (ranges .mul beta c2)) (ranges .mul (ranges .powi beta 2) c3) ⌝ }
 {
-    let first = b.sub(c0).mul(beta.exp().sub(Range::ONE));
+    let first = b.sub(c0).mul(exp(beta).sub(Range::ONE));
     first
         .sub(sum_beta(beta).mul(c1))
         .sub(beta.mul(c2))
@@ -185,7 +188,7 @@ fn b3_term(i: usize, t_x: Range, rep_x: Range) -> Range
     let r = rep_x.sub(Range::point(12.0));
     let e = b3_factor(r, rep_x, 6.0, m).mul(Range::point(k3));
     let s = b3_factor(r, rep_x, l, p);
-    let under = t_x.add(Range::point(k2)).powf(e);
+    let under = powf(t_x.add(Range::point(k2)), e);
     let over = Range::ONE.div(under);
     over.mul(Range::point(k1)).mul(s).add(Range::point(k0))
 }
@@ -251,7 +254,7 @@ fn alpha(rho_x: Range, rep_x: Range, t_x: Range) -> Range
     let one = Range::ONE;
     let first = rho_x.neg().mul(one.div(rep_x)).mul(Range::point(CU_WCA[0]));
     let second = one.div(t_x.powi(2)).mul(Range::point(CU_WCA[1]));
-    first.mul(second.add(one)).exp()
+    exp(first.mul(second.add(one)))
 }
 
 // The terms of the second and the third virial coefficient, by the alpha a of the third.

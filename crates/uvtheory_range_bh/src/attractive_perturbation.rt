@@ -1,5 +1,9 @@
 // uvtheory/eos/bh/attractive_perturbation.rs on ranges: the attractive perturbation by Barker-Henderson.
 use range::basic::Range;
+use range::exponential::exp;
+use range::exponential::powf;
+use range::exponential::tanh;
+use range::logarithm::ln;
 use uvtheory::consts::FRAC_PI_3;
 use uvtheory::consts::PI;
 use uvtheory::parameters::Mixture;
@@ -57,7 +61,7 @@ fn y_eff(beta: Range, rep: Range, a_rs: Range, alpha: Range) -> Range
     let one = Range::ONE;
     let shell = Range::point(5.0).powi(3).sub(one.powi(3));
     let c0 = one.sub(Range::point(3.0).mul(a_rs.sub(alpha)).div(shell));
-    beta_eff(beta, rep, c0).exp().sub(one)
+    exp(beta_eff(beta, rep, c0)).sub(one)
 }
 
 pub fn delta_b2(reduced_temperature: Range, rep: Range, att: Range) -> Range
@@ -83,9 +87,7 @@ fn c11(rep: Range, d: Range, d_rep: Range) -> Range
     let one = Range::ONE;
     let three = Range::point(3.0);
     let s = rep.neg().add(three);
-    let p = one.mul(Range::point(2.0))
-        .powf(s)
-        .sub(d.powf(rep.sub(three)));
+    let p = powf(one.mul(Range::point(2.0)), s).sub(powf(d, rep.sub(three)));
     let q = d.powi(3)
         .neg()
         .mul(Range::point(8.0))
@@ -100,9 +102,7 @@ fn c12(rep: Range, d: Range, d_rep: Range) -> Range
     let one = Range::ONE;
     let four = Range::point(4.0);
     let s = rep.neg().add(four);
-    let p = one.mul(Range::point(2.0))
-        .powf(s)
-        .sub(d.powf(rep.sub(four)));
+    let p = powf(one.mul(Range::point(2.0)), s).sub(powf(d, rep.sub(four)));
     let q = d.powi(2).neg().mul(four).add(one).div(Range::point(8.0));
     d_rep.mul(p).div(s).add(q).mul(Range::point(-0.75))
 }
@@ -113,15 +113,15 @@ fn c13(rep: Range, att: Range, d: Range) -> Range
     let six = Range::point(6.0);
     let s = rep.neg().add(six);
     let d2 = d.mul(Range::point(2.0));
-    let p = d2.powf(s).sub(Range::ONE).div(s);
-    p.sub(d2.ln().mul(d.powf(att.neg().add(six))))
+    let p = powf(d2, s).sub(Range::ONE).div(s);
+    p.sub(ln(d2).mul(powf(d, att.neg().add(six))))
         .div(Range::point(16.0))
 }
 
 fn coefficient_1(rep: Range, att: Range, d: Range) -> Range
     ensures { λ r. ⌜ r ≡ F.coefficient-1 ranges rep att d ⌝ }
 {
-    let d_rep = d.powf(rep.neg().add(Range::point(6.0)));
+    let d_rep = powf(d, rep.neg().add(Range::point(6.0)));
     let c = c11(rep, d, d_rep).add(c12(rep, d, d_rep))
         .add(c13(rep, att, d));
     c.mul(Range::point(FRAC_PI_3)).mul(Range::point(4.0))
@@ -181,12 +181,12 @@ fn u_fraction_bh(rep_x: Range, reduced_density: Range, one_fluid_beta: Range) ->
     let c1 = coefficient_u(CU_BH[1], inv_rep);
     let c2 = coefficient_u(CU_BH[2], inv_rep);
     let c3 = coefficient_u(CU_BH[3], inv_rep);
-    let a = reduced_density.powf(Range::point(1.2187)).mul(c2);
-    let b = reduced_density.powf(Range::point(4.2773)).mul(c3);
+    let a = powf(reduced_density, Range::point(1.2187)).mul(c2);
+    let b = powf(reduced_density, Range::point(4.2773)).mul(c3);
     activation(c1, one_fluid_beta)
         .mul(c0.neg().add(one))
         .add(c0)
-        .mul(a.add(b).tanh())
+        .mul(tanh(a.add(b)))
 }
 
 pub fn energy(o: OneFluid, t: Range, density: Range, rho: Range, b2bar: Range) -> Range

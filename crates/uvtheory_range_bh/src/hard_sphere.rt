@@ -1,5 +1,7 @@
 // uvtheory/eos/bh/hard_sphere.rs on ranges: diameters by Barker-Henderson, and the tau of its packing fractions.
 use range::basic::Range;
+use range::exponential::powf;
+use range::logarithm::ln;
 use uvtheory::parameters::Mixture;
 use uvtheory_range::parameters::bh_coefficients;
 use uvtheory_range::parameters::inv_a76;
@@ -16,10 +18,9 @@ ghost use Rattle.uvtheory_range.specs.Rows.{Row};
 fn quarter_powers(t: Range, c1: Range, c2: Range, c3: Range) -> Range
     ensures { λ r. ⌜ r ≡ F.quarter-powers ranges t c1 c2 c3 ⌝ }
 {
-    let low = t.powf(Range::point(0.25))
-        .mul(c1)
-        .add(t.powf(Range::point(0.75)).mul(c2));
-    low.add(t.powf(Range::point(1.25)).mul(c3))
+    let low = powf(t, Range::point(0.25)).mul(c1)
+        .add(powf(t, Range::point(0.75)).mul(c2));
+    low.add(powf(t, Range::point(1.25)).mul(c3))
 }
 
 // Of one component, by its reduced temperature t, d, which holds the powers of t, and two of its coefficients.
@@ -28,10 +29,10 @@ fn diameter_of(t: Range, d: Range, c0: Range, c4: Range, rep: Range, sigma: Rang
 {
     let one = Range::ONE;
     let v = t.mul(c0)
-        .add(d.mul(t.add(one).ln()))
+        .add(d.mul(ln(t.add(one))))
         .add(t.powi(2).mul(c4))
         .add(one);
-    v.powf(Range::point(-0.5).div(rep)).mul(sigma)
+    powf(v, Range::point(-0.5).div(rep)).mul(sigma)
 }
 
 // Of one component, as sent.

@@ -3,6 +3,9 @@ use crate::hard_sphere::LengthTables;
 use crate::hard_sphere::q_of;
 use crate::hard_sphere::rm_of;
 use range::basic::Range;
+use range::exponential::exp;
+use range::exponential::powf;
+use range::exponential::tanh;
 use uvtheory::consts::PI;
 use uvtheory::parameters::Mixture;
 use uvtheory::parameters::State;
@@ -131,7 +134,7 @@ fn u_polynomial(c: [f64; 3], rep_inv: Range, reduced_density: Range) -> Range
 fn u_fraction_wca(rep_x: Range, reduced_density: Range) -> Range
     ensures { λ r. ⌜ r ≡ F.u-fraction-wca ranges «rep_x» «reduced_density» ⌝ }
 {
-    u_polynomial(CU_WCA, Range::ONE.div(rep_x), reduced_density).tanh()
+    tanh(u_polynomial(CU_WCA, Range::ONE.div(rep_x), reduced_density))
 }
 
 // By the coefficients of the powers of beta.
@@ -141,9 +144,9 @@ fn beta_eff_by(beta: Range, c0: Range, c1: Range, c2: Range, c3: Range) -> Range
         (ranges .mul (ranges .powf beta (ranges .constant N.zero)) c3)) (ranges .constant N.one)))) c0) (ranges .constant N.one)) ⌝ }
 {
     let one = Range::ONE;
-    let a = beta.powf(Range::point(1.05968091375869)).mul(c1);
-    let b = beta.powf(Range::point(3.41106168592999)).mul(c2);
-    let c = beta.powf(Range::ZERO).mul(c3);
+    let a = powf(beta, Range::point(1.05968091375869)).mul(c1);
+    let b = powf(beta, Range::point(3.41106168592999)).mul(c2);
+    let c = powf(beta, Range::ZERO).mul(c3);
     let under = a.add(b).add(c).add(one);
     beta.mul(one.div(under).neg().mul(c0).add(one))
 }
@@ -164,7 +167,7 @@ fn y_eff(beta: Range, rep: Range, rs: Range, a_rs: Range, alpha: Range) -> Range
     let one = Range::ONE;
     let shell = Range::point(5.0).powi(3).sub(rs.powi(3));
     let c0 = one.sub(Range::point(3.0).mul(a_rs.sub(alpha)).div(shell));
-    beta_eff(beta, rep, c0).exp().sub(one)
+    exp(beta_eff(beta, rep, c0)).sub(one)
 }
 
 // By the prefactor c and the place rm of the minimum of rep and att.
@@ -182,7 +185,7 @@ pub fn delta_b2(
     let three = Range::point(3.0);
     let alpha = mean_field_of(c, rep, att, rc);
     let beta = Range::ONE.div(reduced_temperature);
-    let y = beta.exp().sub(Range::ONE);
+    let y = exp(beta).sub(Range::ONE);
     let yeff = y_eff(beta, rep, rm, mean_field_of(c, rep, att, rm), alpha);
     let rm3 = rm.powi(3);
     let a = yeff.mul(rc.powi(3).sub(rm3)).div(three);

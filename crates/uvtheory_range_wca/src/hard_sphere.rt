@@ -1,5 +1,6 @@
 // uvtheory/eos/wca/hard_sphere.rs on ranges: diameters and lengths by Weeks, Chandler and Andersen.
 use range::basic::Range;
+use range::exponential::powf;
 use uvtheory::consts::PI;
 use uvtheory::parameters::Mixture;
 use uvtheory_range::parameters::Combined;
@@ -18,7 +19,7 @@ ghost use Rattle.uvtheory_range_wca.specs.Lengths.{ComponentLengthsOf};
 pub fn rm_of(rep: Range, att: Range) -> Range
     ensures { λ r. ⌜ r ≡ F.rm-of ranges rep att ⌝ }
 {
-    rep.div(att).powf(Range::ONE.div(rep.sub(att)))
+    powf(rep.div(att), Range::ONE.div(rep.sub(att)))
 }
 
 // The diameter of a component, by its reduced temperature t.
@@ -28,8 +29,8 @@ pub fn diameter_of(t: Range, rep: Range, rm: Range, sigma: Range) -> Range
     let one = Range::ONE;
     let two = Range::point(2.0);
     let exponent = rep.neg().div(Range::point(12.0).sub(two.mul(rep)));
-    let c = rep.div(Range::point(6.0)).powf(exponent).sub(one);
-    let under = t.sqrt().mul(c).add(one).powf(two.div(rep));
+    let c = powf(rep.div(Range::point(6.0)), exponent).sub(one);
+    let under = powf(t.sqrt().mul(c).add(one), two.div(rep));
     one.div(under).mul(rm).mul(sigma)
 }
 
@@ -62,10 +63,10 @@ fn polynomial_by(t_x: Range, nu: Range, n: Range, c0: Range, c1: Range, c2: Rang
 {
     let one = Range::ONE;
     let two = Range::point(2.0);
-    let a = t_x.powf(two).mul(c2);
-    let b = t_x.powf(Range::point(3.0).div(two)).mul(c1);
+    let a = powf(t_x, two).mul(c2);
+    let b = powf(t_x, Range::point(3.0).div(two)).mul(c1);
     let root = nu.mul(two).mul(Range::point(PI)).div(n).sqrt();
-    let d = t_x.powf(one.div(two)).mul(root);
+    let d = powf(t_x, one.div(two)).mul(root);
     a.add(b).add(t_x.mul(c0)).add(d).add(one)
 }
 
@@ -84,7 +85,7 @@ pub fn q_of(t_x: Range, nu: Range, n: Range, rs: Range) -> Range
     ensures { λ r. ⌜ r ≡ F.q-of ranges «t_x» nu n rs ⌝ }
 {
     let exponent = Range::ONE.div(nu.mul(Range::point(2.0))).neg();
-    polynomial_q(t_x, nu, n).powf(exponent).mul(rs)
+    powf(polynomial_q(t_x, nu, n), exponent).mul(rs)
 }
 
 // The place of the minimum, the diameter and the length of a component, and of each.

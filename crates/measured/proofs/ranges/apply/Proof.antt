@@ -1,10 +1,10 @@
--- Each arm of the match is a row of the table `methods`; past its last row there is none.
+-- Each arm of the match is a row of the table `operations`; past its last row there is none.
 use Prim.Native.Nat.{ℕ, suc, _≤_}
 use native.Mathlib.Omega.{arith}
 use mathlib.Core.Path.{_≡_, _∙_, sym}
 use lib.ListN.{List·getD-eq-default}
 use Rattle.range.specs.Rules.{failed}
-use Rattle.measured.specs.Applied.{methods, applied}
+use Rattle.measured.specs.Applied.{operations, applied}
 use Rattle.measured.proofs.ranges.apply.Statement.{statement}
 use Rattle.measured.proofs.ranges.apply.Tie as tie
 
@@ -73,7 +73,7 @@ returns-15 c =
     let a = c .before .before .args in
     let r = c .before .match .rest in
     let h : 14 ≤ a .op = past (r .1) (past (r .0 .1) (past (r .0 .0 .1) (past (r .0 .0 .0 .1) (past (r .0 .0 .0 .0 .1) (past (r .0 .0 .0 .0 .0 .1) (past (r .0 .0 .0 .0 .0 .0 .1) (past (r .0 .0 .0 .0 .0 .0 .0 .1) (past (r .0 .0 .0 .0 .0 .0 .0 .0 .1) (past (r .0 .0 .0 .0 .0 .0 .0 .0 .0 .1) (past (r .0 .0 .0 .0 .0 .0 .0 .0 .0 .0 .1) (past (r .0 .0 .0 .0 .0 .0 .0 .0 .0 .0 .0 .1) (past (r .0 .0 .0 .0 .0 .0 .0 .0 .0 .0 .0 .0 .1) (past (r .0 .0 .0 .0 .0 .0 .0 .0 .0 .0 .0 .0 .0 .1) (omega arith)))))))))))))) in
-    c .failed .ensures ∙ sym (List·getD-eq-default (methods (a .k) (a .t) (a .a) (a .b)) failed {n = a .op} h)
+    c .failed .ensures ∙ sym (List·getD-eq-default (operations (a .k) (a .t) (a .a) (a .b)) failed {n = a .op} h)
 
 pub apply-spec : {M : Type 1} → statement M
 apply-spec = tie.close (tie.spec (λ c κs. tt) (λ c κs. tt) (λ c κs. tt) (λ c κs. tt) (λ c κs. tt) (λ c κs. tt) (λ c κs. tt) (λ c κs. tt) (λ c κs. tt) (λ c κs. tt) (λ c κs. tt) (λ c κs. tt) (λ c κs. tt) (λ c κs. tt) (λ c κs. tt) returns returns-2 returns-3 returns-4 returns-5 returns-6 returns-7 returns-8 returns-9 returns-10 returns-11 returns-12 returns-13 returns-14 returns-15)

@@ -1,8 +1,8 @@
 use Rattle.arithmetic.specs.Recipes as R
 use lib.Ieee.{ofBits, neg}
 use Rattle.range.proofs.Points.{one-point}
-use Rattle.range.proofs.basic.Range.ln_1p.Statement.{statement}
-use Rattle.range.proofs.basic.Range.ln_1p.Tie as tie
+use Rattle.range.proofs.logarithm.ln_1p.Statement.{statement}
+use Rattle.range.proofs.logarithm.ln_1p.Tie as tie
 
 if-above-requires : tie.Need-if-above-requires
 unfolding ofBits neg

@@ -1,8 +1,8 @@
 use Rattle.arithmetic.specs.Recipes as R
 use lib.Ieee.{ofBits, neg}
 use Rattle.range.proofs.Points.{one-point}
-use Rattle.range.proofs.basic.Range.tanh.Statement.{statement}
-use Rattle.range.proofs.basic.Range.tanh.Tie as tie
+use Rattle.range.proofs.exponential.tanh.Statement.{statement}
+use Rattle.range.proofs.exponential.tanh.Tie as tie
 
 if-below-requires : tie.Need-if-below-requires
 unfolding ofBits neg

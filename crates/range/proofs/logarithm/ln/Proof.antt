@@ -22,40 +22,40 @@ use Rattle.range.specs.Rules.{ok, range, scale, rules}
 use Rattle.range.proofs.Corners.{lower-finite, upper-finite}
 use Rattle.range.proofs.Testing.{has-ends, failed-step, none-lower, none-upper, two-steps, one-step}
 use Rattle.range.proofs.Mantissa.{Split, not-at-most-zero, at-most-zero, scale-exact}
-use Rattle.range.proofs.basic.Range.ln.Statement.{statement}
-use Rattle.range.proofs.basic.Range.ln.Tie as tie
+use Rattle.range.proofs.logarithm.ln.Statement.{statement}
+use Rattle.range.proofs.logarithm.ln.Tie as tie
 
 -- the recipe's text for an e
 abbrev body : Range → ℤ → Range
 body v e = R.lnOf rules (scale v (negℤ e)) e
 
-is-ok : (c : tie.Else1) → ok (c .before .before .args .self) ≡ true
+is-ok : (c : tie.Else1) → ok (c .before .before .args .v) ≡ true
 is-ok c = sym (c .before .is-ok .ensures) ∙ passed-test (c .before .is-ok .result) (c .if1 .left)
 
 returns : tie.Need-returns
 unfolding R.ln
 returns c =
     let s = c .before .before in
-    let v = s .before .args .self in
+    let v = s .before .args .v in
     c .failed .ensures ∙ sym (failed-step exponent v (body v) (sym (s .is-ok .ensures) ∙ failed-test (s .is-ok .result) (c .before .if1 .taken)))
 
 returns-2 : tie.Need-returns-2
 unfolding R.ln
 returns-2 c =
     let s = c .before .before .before in
-    let v = s .before .before .args .self in
+    let v = s .before .before .args .v in
     c .failed2 .ensures ∙ sym (none-lower exponent v (body v) (at-most-zero (v .lower) (lower-finite v (has-ends v (is-ok s))) (c .before .if2 .taken)))
 
 returns-3 : tie.Need-returns-3
 unfolding R.ln
 returns-3 c =
     let s = c .before .before .before .before .before in
-    let v = s .before .before .args .self in
+    let v = s .before .before .args .v in
     c .failed3 .ensures ∙ sym (none-upper exponent v (body v) (at-most-zero (v .upper) (upper-finite v (has-ends v (is-ok s))) (c .before .if3 .taken)))
 
 -- ---- past the tests of the ends
 abbrev argument : tie.After-struct-known3 → Range
-argument c = c .before .before .before .before .before .before .before .args .self
+argument c = c .before .before .before .before .before .before .before .args .v
 
 module _ (c : tie.After-struct-known3) where
   has : ok (argument c) ≡ true

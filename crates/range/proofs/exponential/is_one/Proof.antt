@@ -1,6 +1,6 @@
 -- By the two tests.
-use Rattle.range.proofs.basic.Range.is_one.Statement.{statement}
-use Rattle.range.proofs.basic.Range.is_one.Tie as tie
+use Rattle.range.proofs.exponential.is_one.Statement.{statement}
+use Rattle.range.proofs.exponential.is_one.Tie as tie
 
 returns : tie.Need-returns
 returns c = rw (c .before .if1 .taken)

@@ -9,8 +9,8 @@ use Rattle.range.specs.Rules.{failed, zero}
 use Rattle.range.proofs.Corners.{lower-finite}
 use Rattle.range.proofs.Testing.{has-ends, test-else}
 use Rattle.range.proofs.Points.{zero-point}
-use Rattle.range.proofs.basic.Range.exp.Statement.{statement}
-use Rattle.range.proofs.basic.Range.exp.Tie as tie
+use Rattle.range.proofs.exponential.exp.Statement.{statement}
+use Rattle.range.proofs.exponential.exp.Tie as tie
 
 if-above-requires : tie.Need-if-above-requires
 unfolding ofBits
@@ -24,7 +24,7 @@ returns : tie.Need-returns
 unfolding R.exp
 returns c =
     let b = c .before .before in
-    let v = b .before .before .args .self in
+    let v = b .before .before .args .v in
     rw (c .if-below .ensures, c .before .if-above .ensures, b .before .failed .ensures, zero-point)
     (test-else (below K.minusSevenHundred) v zero _ _
     (λ k p. test-else (above K.sevenHundred) v failed _ _

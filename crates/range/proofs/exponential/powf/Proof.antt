@@ -5,8 +5,8 @@ use lib.Ieee.{ofBits, neg}
 use Rattle.arithmetic.specs.Recipes as R
 use Rattle.range.proofs.Points.{zero-point}
 use Rattle.range.proofs.PowerOfOne.{tested-power}
-use Rattle.range.proofs.basic.Range.powf.Statement.{statement}
-use Rattle.range.proofs.basic.Range.powf.Tie as tie
+use Rattle.range.proofs.exponential.powf.Statement.{statement}
+use Rattle.range.proofs.exponential.powf.Tie as tie
 
 returns : tie.Need-returns
 returns c =
