@@ -2,11 +2,11 @@
 use operations::basic::is_finite;
 use range::basic::Range;
 use range::basic::failed;
-use range::exponential::exp;
-use range::exponential::powf;
-use range::exponential::tanh;
-use range::logarithm::ln;
-use range::logarithm::ln_1p;
+use range_elementary::exponential::exp;
+use range_elementary::exponential::powf;
+use range_elementary::exponential::tanh;
+use range_elementary::logarithm::ln;
+use range_elementary::logarithm::ln_1p;
 ghost use mathlib.Core.Path.{_≡_};
 ghost use Rattle.range.specs.Rules as Rules;
 ghost use Rattle.measured.specs.Applied.{applied, whereBelow, whereAbove};

@@ -16,6 +16,3 @@ pub mod Example
 pub mod Rows
 pub mod Points
 pub mod Testing
-pub mod Place
-pub mod Mantissa
-pub mod PowerOfOne

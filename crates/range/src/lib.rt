@@ -1,5 +1,2 @@
-// Ranges of doubles by document 01's rules: each operation is proved to be its rule (specs/Rules.antt).
+// Ranges of doubles by document 01's rules: each method is proved to be its rule (specs/Rules.antt).
 pub mod basic;
-pub mod exponential;
-pub mod logarithm;
-pub mod series;

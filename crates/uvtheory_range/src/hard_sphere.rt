@@ -1,6 +1,6 @@
 // hard_sphere/mod.rs, MonomerShape::Spherical, on ranges: the hard-sphere term.
 use range::basic::Range;
-use range::logarithm::ln_1p;
+use range_elementary::logarithm::ln_1p;
 use uvtheory::consts::FRAC_PI_6;
 use uvtheory::parameters::State;
 ghost use mathlib.Core.Path.{_≡_};

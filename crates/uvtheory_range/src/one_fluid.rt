@@ -1,7 +1,7 @@
 // one_fluid_properties on ranges, and the sums over pairs of the virial coefficients.
 use crate::parameters::Combined;
 use range::basic::Range;
-use range::exponential::powf;
+use range_elementary::exponential::powf;
 ghost use mathlib.Core.Path.{_≡_};
 ghost use Prim.Native.Nat.{_≤_};
 ghost use Rattle.range.specs.Rules.{ranges};

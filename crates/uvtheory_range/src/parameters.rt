@@ -1,6 +1,6 @@
 // uvtheory/parameters.rs on ranges: the combined parameters of a mixture, and `mie_prefactor`, `mean_field_constant` and `bh_coefficients`.
 use range::basic::Range;
-use range::exponential::powf;
+use range_elementary::exponential::powf;
 use uvtheory::parameters::CD_BH;
 use uvtheory::parameters::Mixture;
 use uvtheory::parameters::place;

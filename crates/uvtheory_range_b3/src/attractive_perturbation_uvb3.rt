@@ -1,8 +1,8 @@
 // uvtheory/eos/wca/attractive_perturbation_uvb3.rs on ranges: the attractive perturbation of WCA-B3.
 use range::basic::Range;
-use range::exponential::exp;
-use range::exponential::powf;
-use range::exponential::tanh;
+use range_elementary::exponential::exp;
+use range_elementary::exponential::powf;
+use range_elementary::exponential::tanh;
 use uvtheory::consts::PI;
 use uvtheory::parameters::Mixture;
 use uvtheory::parameters::State;

@@ -1,9 +1,9 @@
 // uvtheory/eos/bh/attractive_perturbation.rs on ranges: the attractive perturbation by Barker-Henderson.
 use range::basic::Range;
-use range::exponential::exp;
-use range::exponential::powf;
-use range::exponential::tanh;
-use range::logarithm::ln;
+use range_elementary::exponential::exp;
+use range_elementary::exponential::powf;
+use range_elementary::exponential::tanh;
+use range_elementary::logarithm::ln;
 use uvtheory::consts::FRAC_PI_3;
 use uvtheory::consts::PI;
 use uvtheory::parameters::Mixture;

@@ -1,7 +1,7 @@
 // uvtheory/eos/bh/hard_sphere.rs on ranges: diameters by Barker-Henderson, and the tau of its packing fractions.
 use range::basic::Range;
-use range::exponential::powf;
-use range::logarithm::ln;
+use range_elementary::exponential::powf;
+use range_elementary::logarithm::ln;
 use uvtheory::parameters::Mixture;
 use uvtheory_range::parameters::bh_coefficients;
 use uvtheory_range::parameters::inv_a76;

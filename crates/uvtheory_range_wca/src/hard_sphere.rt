@@ -1,6 +1,6 @@
 // uvtheory/eos/wca/hard_sphere.rs on ranges: diameters and lengths by Weeks, Chandler and Andersen.
 use range::basic::Range;
-use range::exponential::powf;
+use range_elementary::exponential::powf;
 use uvtheory::consts::PI;
 use uvtheory::parameters::Mixture;
 use uvtheory_range::parameters::Combined;
