@@ -3,4 +3,3 @@ pub mod Rules
 pub mod Exact
 pub mod Enclosed
 pub mod Positive
-pub mod Moderate

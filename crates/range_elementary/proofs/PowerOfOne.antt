@@ -23,7 +23,7 @@ use Rattle.arithmetic.proofs.Exact.{one-of-value, add-mono}
 use Rattle.arithmetic.proofs.Enclosure.{Among, among-finite, among-within, mul-rounds, among-rounds}
 use Rattle.arithmetic.proofs.Next.{nextUp-fits, nextDown-fits, nextUp-lt, nextDown-lt, nextUp-least, nextDown-greatest}
 use Rattle.range.specs.declared.basic.Range.{Range}
-use Rattle.range.specs.Moderate.{thousand, minusThousand, moderate}
+use Rattle.range_elementary.specs.Moderate.{thousand, minusThousand, moderate}
 use Rattle.range.specs.Rules.{range, ok, isZero, plusZero, before, after, least, greatest, ends, outwards, point, rules, ranges}
 use Rattle.range.specs.Rules as Rules
 use Rattle.range.specs.Enclosed.{Ok}

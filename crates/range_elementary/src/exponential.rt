@@ -22,7 +22,7 @@ ghost use lib.Ieee.{binary64, lt, eq};
 ghost use Rattle.arithmetic.specs.Basic.{floor};
 ghost use Rattle.arithmetic.specs.Constants as K;
 ghost use Rattle.arithmetic.specs.Recipes as R;
-ghost use Rattle.range.specs.Moderate.{moderate};
+ghost use Rattle.range_elementary.specs.Moderate.{moderate};
 ghost use Rattle.range.specs.Rules as Rules;
 ghost use Rattle.range.specs.Rules.{rules, ranges, before, after};
 

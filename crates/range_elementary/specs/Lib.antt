@@ -1,0 +1,2 @@
+-- Which powers of [1,1] are known.
+pub mod Moderate
