@@ -14,5 +14,5 @@ pub mod Failures
 pub mod Carried
 pub mod Example
 pub mod Rows
-pub mod Points
+pub mod Constants
 pub mod Testing

@@ -128,7 +128,7 @@ impl Range {
         upper: 1.0,
     };
 
-    pub fn point(x: f64) -> Range
+    pub fn constant(x: f64) -> Range
         ensures { λ r. ⌜ r ≡ ranges .constant x ⌝ }
     {
         ends(x, x)

@@ -59,8 +59,9 @@ fn exp_of(v: Range, k: i64) -> Range
     requires { ⌜ T (leZ (negsuc 1021) k) × T (leZ k (pos 1023)) ⌝ }
     ensures { λ r. ⌜ r ≡ R.expOf rules v k ⌝ }
 {
-    let w = Range::point(k as f64);
-    let r = v.sub(w.mul(Range::point(H))).sub(w.mul(Range::point(G)));
+    let w = Range::constant(k as f64);
+    let r = v.sub(w.mul(Range::constant(H)))
+        .sub(w.mul(Range::constant(G)));
     scale(horner(&FACTORIALS, r), k)
 }
 
@@ -69,7 +70,7 @@ fn exp_between(v: Range) -> Range
     ensures { λ r. ⌜ (Rules.ok v ≡ true → lt (v .lower) K.minusSevenHundred ≡ false → lt K.sevenHundred (v .lower) ≡ false
         → r ≡ rules .step floor (rules .add (rules .mul v (rules .constant K.E)) (rules .constant K.half)) (λ k. R.expOf rules v k)) ⌝ }
 {
-    let place = v.mul(Range::point(E)).add(Range::point(0.5));
+    let place = v.mul(Range::constant(E)).add(Range::constant(0.5));
     if !place.is_ok() {
         return failed();
     }
@@ -145,8 +146,8 @@ pub fn powf(v: Range, b: Range) -> Range
 pub fn tanh(v: Range) -> Range
     ensures { λ r. ⌜ r ≡ ranges .tanh v ⌝ }
 {
-    let two = Range::point(2.0);
+    let two = Range::constant(2.0);
     let inner = Range::ONE.sub(two.div(exp(two.mul(v)).add(Range::ONE)));
-    let lower = v.if_below(-20.0, Range::point(-1.0), inner);
+    let lower = v.if_below(-20.0, Range::constant(-1.0), inner);
     v.if_above(20.0, Range::ONE, lower)
 }

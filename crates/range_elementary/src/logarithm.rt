@@ -15,7 +15,7 @@ ghost use Rattle.range.specs.Rules.{rules, ranges};
 fn series(s: Range) -> Range
     ensures { λ r. ⌜ r ≡ R.series rules s ⌝ }
 {
-    Range::point(2.0).mul(s).mul(horner(&ODDS, s.mul(s)))
+    Range::constant(2.0).mul(s).mul(horner(&ODDS, s.mul(s)))
 }
 
 // ln of m * 2^e.
@@ -24,7 +24,7 @@ fn ln_of(m: Range, e: i64) -> Range
     ensures { λ r. ⌜ r ≡ R.lnOf rules m e ⌝ }
 {
     let s = m.sub(Range::ONE).div(m.add(Range::ONE));
-    series(s).add(Range::point(e as f64).mul(Range::point(L)))
+    series(s).add(Range::constant(e as f64).mul(Range::constant(L)))
 }
 
 // The natural logarithm of a range above 0, both of whose ends have one e.
@@ -57,7 +57,7 @@ pub fn ln_1p(v: Range) -> Range
     ensures { λ r. ⌜ r ≡ ranges .ln1p v ⌝ }
 {
     let far = ln(Range::ONE.add(v));
-    let near = series(v.div(Range::point(2.0).add(v)));
+    let near = series(v.div(Range::constant(2.0).add(v)));
     let below = v.if_above(-1.0, far, failed());
     let within = v.if_above(0.25, far, near);
     v.if_below(-0.25, below, within)

@@ -17,7 +17,7 @@ fn step_of(pl: f64, pu: f64, zl: f64, zu: f64, c: f64) -> Range
     ensures { λ r. ⌜ r ≡ rules .add (rules .mul (Rules.range pl pu) (Rules.range zl zu)) (rules .constant c) ⌝ }
 {
     let q = product_of(pl, pu, zl, zu);
-    let d = Range::point(c);
+    let d = Range::constant(c);
     sum_of(q.lower, q.upper, d.lower, d.upper)
 }
 
@@ -62,7 +62,7 @@ fn step(p: Range, z: Range, c: f64) -> Range
         return step_below(p, z, c);
     }
     if z.lower > 0.0 {
-        return p.mul(z).add(Range::point(c));
+        return p.mul(z).add(Range::constant(c));
     }
     let r = step_of(p.lower, p.upper, z.lower, z.upper, c);
     Range {
@@ -77,7 +77,7 @@ pub fn horner(c: &[f64], z: Range) -> Range
     ensures { λ r. ⌜ r ≡ R.horner rules z (getD (now (c .entry)) 0 nan) (drop 1 (now (c .entry))) ⌝ }
 {
     let mut k = c.len() - 1;
-    let mut p = Range::point(c[k]);
+    let mut p = Range::constant(c[k]);
     while k > 0 {
         k -= 1;
         p = step(p, z, c[k]);

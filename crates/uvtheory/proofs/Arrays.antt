@@ -1,13 +1,11 @@
 -- The sums over arrays that hold the formulas' values are the formulas' sums.
 use Prim.Native.Nat.{ℕ, _*_, _/_, _%_, _<_}
-use mathlib.Core.Path.{_≡_, ap, ap₂, _∙_}
+use mathlib.Core.Path.{_≡_, refl, ap, ap₂, _∙_}
 use mathlib.Core.List.{List}
 use lib.ListN.{getD}
 use lib.Ieee.{Float, nan}
-use Rattle.arithmetic.specs.Basic.{Basic}
-use Rattle.arithmetic.specs.Arithmetic.{Arithmetic, over}
-use Rattle.arithmetic.specs.Root as Root
-use Rattle.arithmetic.specs.Doubles.{plain, guarded}
+use Rattle.arithmetic.specs.Arithmetic.{Arithmetic}
+use Rattle.arithmetic.specs.Doubles.{guarded}
 use Rattle.uvtheory.specs.declared.parameters.Mixture.{Mixture}
 use Rattle.uvtheory.specs.declared.parameters.Combined.{Combined}
 use Rattle.uvtheory.specs.Parameters.{State}
@@ -16,31 +14,28 @@ use Rattle.uvtheory.specs.Held.{CombinedOf}
 use Rattle.uvtheory.specs.OneFluid as O
 use Rattle.uvtheory.specs.HardSphere as S
 use Rattle.uvtheory.specs.PackingFraction as P
-use Rattle.uvtheory.proofs.Loops.{sum-ext, at-pair}
+use Rattle.uvtheory.proofs.Loops.{Adds, sum-ext, at-pair}
 
 pub matrix-at : {X : Type 0} (none : X) (n : ℕ) (xs : List X) (f : ℕ → ℕ → X) → MatrixOf none n xs f → (k : ℕ) → k < n * n → matrixOf none n xs (k / n) (k % n) ≡ f (k / n) (k % n)
 matrix-at none n xs f h k l = ap (λ (i : ℕ). getD xs i none) (at-pair n k) ∙ h k l
 
--- ---- in any arithmetic over the operations B and a root
-module _ (B : Basic) (root : B .Value → B .Value) where
-  open Basic B using (Value)
-
-  abbrev A : Arithmetic
-  A = over B root
+-- ---- in any arithmetic that adds from the left
+module _ (A : Arithmetic) (adds : Adds A) where
+  open Arithmetic A using (Value)
 
   -- over the components, by an array; `none` is read past its end
   module _ (none : Value) (n : ℕ) (w : ℕ → Value) (xs : List Value) (f : ℕ → Value) (h : RowOf none n xs f) where
     pub mean-cube-of : O.mean-cube A n w (rowOf none xs) ≡ O.mean-cube A n w f
     unfolding O.mean-cube
-    mean-cube-of = sum-ext B root n _ _ (λ i l. ap (λ (v : Value). A .mul (w i) (A .powi v 3)) (h i l))
+    mean-cube-of = sum-ext A adds n _ _ (λ i l. ap (λ (v : Value). A .mul (w i) (A .powi v 3)) (h i l))
 
     pub weighted-zeta-of : (k : ℕ) → S.weighted-zeta A n (rowOf none xs) w k ≡ S.weighted-zeta A n f w k
     unfolding S.weighted-zeta
-    weighted-zeta-of k = sum-ext B root n _ _ (λ i l. rw (h i l))
+    weighted-zeta-of k = sum-ext A adds n _ _ (λ i l. rw (h i l))
 
     pub packing-fraction-of : P.packing-fraction A n w (rowOf none xs) ≡ P.packing-fraction A n w f
     unfolding P.packing-fraction
-    packing-fraction-of = sum-ext B root n _ _ (λ i l. rw (h i l))
+    packing-fraction-of = sum-ext A adds n _ _ (λ i l. rw (h i l))
 
   pub hard-sphere-of : (none : Value) (n : ℕ) (s : State Value) (xs : List Value) (f : ℕ → Value) → RowOf none n xs f → S.helmholtz-energy-density A n (rowOf none xs) s ≡ S.helmholtz-energy-density A n f s
   unfolding S.helmholtz-energy-density
@@ -50,11 +45,11 @@ module _ (B : Basic) (root : B .Value → B .Value) where
   module _ (n : ℕ) (x : ℕ → Value) where
     pub pair-mean-of : (f g : ℕ → ℕ → Value) → ((k : ℕ) → k < n * n → f (k / n) (k % n) ≡ g (k / n) (k % n)) → O.pair-mean A n x f ≡ O.pair-mean A n x g
     unfolding O.pair-mean
-    pair-mean-of f g h = sum-ext B root (n * n) _ _ (λ k l. ap (λ (v : Value). A .mul (A .mul (x (k / n)) (x (k % n))) v) (h k l))
+    pair-mean-of f g h = sum-ext A adds (n * n) _ _ (λ k l. ap (λ (v : Value). A .mul (A .mul (x (k / n)) (x (k % n))) v) (h k l))
 
     pub weighted-pairs-of : (s t f g : ℕ → ℕ → Value) → ((k : ℕ) → k < n * n → s (k / n) (k % n) ≡ t (k / n) (k % n)) → ((k : ℕ) → k < n * n → f (k / n) (k % n) ≡ g (k / n) (k % n)) → O.weighted-pairs A n x s f ≡ O.weighted-pairs A n x t g
     unfolding O.weighted-pairs
-    weighted-pairs-of s t f g h e = sum-ext B root (n * n) _ _ (λ k l. ap₂ (λ (u v : Value). A .mul (A .mul (A .mul (x (k / n)) (x (k % n))) u) v) (h k l) (e k l))
+    weighted-pairs-of s t f g h e = sum-ext A adds (n * n) _ _ (λ k l. ap₂ (λ (u v : Value). A .mul (A .mul (A .mul (x (k / n)) (x (k % n))) u) v) (h k l) (e k l))
 
   -- over the pairs, by matrices; `none` is read past their ends
   module _ (none : Value) (n : ℕ) (x : ℕ → Value) where
@@ -92,9 +87,9 @@ module _ (m : Mixture) (c : Combined) (held : CombinedOf m c) where
 
   module _ (x : ℕ → Float) where
     pub virial-sum-held : (e : ℕ) (xs : List Float) (f : ℕ → ℕ → Float) → Matrix (m .n) xs f → O.virial-sum guarded (m .n) x (matrix (m .n) (c .«sigma_ij»)) e (matrix (m .n) xs) ≡ O.virial-sum guarded (m .n) x (parameters guarded m .sigma-ij) e f
-    virial-sum-held = virial-sum-of plain Root.sqrt nan (m .n) x (c .«sigma_ij») (parameters guarded m .sigma-ij) (held .sigma-are)
+    virial-sum-held = virial-sum-of guarded (λ n f. refl) nan (m .n) x (c .«sigma_ij») (parameters guarded m .sigma-ij) (held .sigma-are)
 
     pub one-fluid-held : (ds : List Float) (d : ℕ → Float) → Row (m .n) ds d → O.one-fluid-of guarded (m .n) (matrix (m .n) (c .«rep_ij»)) (matrix (m .n) (c .«att_ij»)) (matrix (m .n) (c .«sigma_ij»)) (matrix (m .n) (c .«eps_k_ij»)) (row (m .sigma)) x (row ds) ≡ O.one-fluid-properties guarded (parameters guarded m) x d
     one-fluid-held ds d =
         let p = parameters guarded m in
-        one-fluid-is plain Root.sqrt nan (m .n) x (c .«rep_ij») (c .«att_ij») (c .«sigma_ij») (c .«eps_k_ij») ds (p .rep-ij) (p .att-ij) (p .sigma-ij) (p .eps-k-ij) (row (m .sigma)) d (held .rep-are) (held .att-are) (held .sigma-are) (held .epsilon-are)
+        one-fluid-is guarded (λ n f. refl) nan (m .n) x (c .«rep_ij») (c .«att_ij») (c .«sigma_ij») (c .«eps_k_ij») ds (p .rep-ij) (p .att-ij) (p .sigma-ij) (p .eps-k-ij) (row (m .sigma)) d (held .rep-are) (held .att-are) (held .sigma-are) (held .epsilon-are)

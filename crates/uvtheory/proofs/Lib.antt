@@ -3,5 +3,6 @@ pub mod Place
 pub mod Combined
 pub mod Arrays
 pub mod Loops
+pub mod Eight
 pub mod Kept
 pub mod Agreement

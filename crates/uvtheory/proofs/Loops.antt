@@ -11,20 +11,26 @@ use native.Mathlib.Omega.{arith}
 use lib.Dec.{lit≤}
 use mir.Syntax.{w64}
 use mir.Val.{Fits}
-use Rattle.arithmetic.specs.Basic.{Basic}
-use Rattle.arithmetic.specs.Arithmetic.{sumBy, over}
+use Rattle.arithmetic.specs.Constants.{zeroD}
+use Rattle.arithmetic.specs.Arithmetic.{Arithmetic, sumBy}
 use Rattle.uvtheory.specs.Rows.{RowOf}
 
--- ---- sums, in any arithmetic over the operations B and a root
-module _ (B : Basic) (root : B .Value → B .Value) where
-  pub sum-step : (f : ℕ → B .Value) (i : ℕ) → over B root .sum (i + 1) f ≡ B .add (over B root .sum i f) (f i)
-  unfolding sumBy
-  sum-step f i = rw (add-one i)
+-- ---- sums, in any arithmetic that adds from the left
+abbrev pub Adds : Arithmetic → Type 0
+Adds A = (n : ℕ) (f : ℕ → A .Value) → A .sum n f ≡ sumBy (A .constant zeroD) (A .add) n f
 
-  pub sum-ext : (n : ℕ) (f g : ℕ → B .Value) → ((i : ℕ) → i < n → f i ≡ g i) → over B root .sum n f ≡ over B root .sum n g
+module _ (A : Arithmetic) (adds : Adds A) where
+  pub sum-step : (f : ℕ → A .Value) (i : ℕ) → A .sum (i + 1) f ≡ A .add (A .sum i f) (f i)
   unfolding sumBy
-  sum-ext zero f g h = refl
-  sum-ext (suc n) f g h = ap₂ (B .add) (sum-ext n f g (λ i l. h i (omega arith))) (h n (le-refl (suc n)))
+  sum-step f i = rw (adds (i + 1) f, add-one i, adds i f)
+
+  pub sum-ext : (n : ℕ) (f g : ℕ → A .Value) → ((i : ℕ) → i < n → f i ≡ g i) → A .sum n f ≡ A .sum n g
+  unfolding sumBy
+  sum-ext n f g h = adds n f ∙ go n h ∙ sym (adds n g)
+    where
+      go : (n : ℕ) → ((i : ℕ) → i < n → f i ≡ g i) → sumBy (A .constant zeroD) (A .add) n f ≡ sumBy (A .constant zeroD) (A .add) n g
+      go zero h = refl
+      go (suc n) h = ap₂ (A .add) (go n (λ i l. h i (omega arith))) (h n (le-refl (suc n)))
 
 -- ---- the row and the column of the k-th of n × n
 some-rows : (n k : ℕ) → k < n * n → 0 < n

@@ -3,7 +3,7 @@ use Prim.Native.Nat.{ℕ}
 use mathlib.Core.Path.{_≡_}
 use mathlib.Core.List.{List}
 use Rattle.range.specs.declared.basic.Range.{Range}
-use Rattle.range.specs.Rules.{failed, ranges}
+use Rattle.range.specs.Rules.{ranges}
 use Rattle.uvtheory.specs.declared.parameters.Mixture.{Mixture}
 use Rattle.uvtheory.specs.Contributions.{Contributions}
 use Rattle.uvtheory.specs.Held.{SymmetricOf}
@@ -11,7 +11,7 @@ use Rattle.uvtheory.specs.Rows.{parameters}
 use Rattle.uvtheory_range.specs.declared.parameters.Pair.{Pair}
 use Rattle.uvtheory_range.specs.declared.parameters.Combined.{Combined}
 use Rattle.uvtheory_range.specs.declared.contributions.Contributions.{Contributions as Held}
-use Rattle.uvtheory_range.specs.Rows.{Matrix}
+use Rattle.uvtheory_range.specs.Rows.{missing, Matrix}
 
 pub record PairOf (m : Mixture) (i j : ℕ) (p : Pair) : Type 0 where
   pub rep-is : p .rep ≡ parameters ranges m .rep-ij i j
@@ -27,7 +27,7 @@ pub record CombinedOf (m : Mixture) (c : Combined) : Type 0 where
 
 -- below the diagonal stands what stands above it
 abbrev pub Symmetric : ℕ → List Range → Type 0
-Symmetric = SymmetricOf failed
+Symmetric = SymmetricOf missing
 
 -- the ends of the three energies, as the code holds them
 pub record ContributionsOf (held : Held) (c : Contributions Range) : Type 0 where

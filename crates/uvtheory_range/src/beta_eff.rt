@@ -9,5 +9,5 @@ ghost use Rattle.uvtheory.specs.BetaEff as F;
 pub fn coefficient_2(c: [f64; 2], rep: Range) -> Range
     ensures { λ r. ⌜ r ≡ F.coefficient-2 ranges (Doubles.row c) rep ⌝ }
 {
-    Range::point(c[0]).add(Range::point(c[1]).div(rep))
+    Range::constant(c[0]).add(Range::constant(c[1]).div(rep))
 }

@@ -1,39 +1,38 @@
 // hard_sphere/mod.rs, MonomerShape::Spherical, on ranges: the hard-sphere term.
+use crate::parameters::State;
 use range::basic::Range;
 use range_elementary::logarithm::ln_1p;
 use uvtheory::consts::FRAC_PI_6;
-use uvtheory::parameters::State;
 ghost use mathlib.Core.Path.{_≡_};
 ghost use Prim.Native.Nat.{_≤_};
 ghost use Rattle.range.specs.Rules.{ranges};
 ghost use Rattle.uvtheory.specs.HardSphere as F;
-ghost use Rattle.uvtheory.specs.Rows.{state};
-ghost use Rattle.uvtheory_range.specs.Rows.{points, row};
+ghost use Rattle.uvtheory_range.specs.Rows.{row, state};
 
 // The zeta of the fractions with the diameters to the k.
-pub fn weighted_zeta(n: usize, diameter: [Range; 8], weights: &[f64; 8], k: u64) -> Range
+pub fn weighted_zeta(n: usize, diameter: [Range; 8], weights: [Range; 8], k: u64) -> Range
     requires { ⌜ n ≤ 8 ⌝ }
-    ensures { λ r. ⌜ r ≡ F.weighted-zeta ranges n (row diameter) (points (now (weights .entry))) k ⌝ }
+    ensures { λ r. ⌜ r ≡ F.weighted-zeta ranges n (row diameter) (row weights) k ⌝ }
 {
     let mut z = Range::ZERO;
     let mut i = 0;
     while i < n {
-        let w = Range::point(weights[i]).mul(diameter[i].powi(k));
-        z = z.add(w.mul(Range::point(FRAC_PI_6)));
+        let w = weights[i].mul(diameter[i].powi(k));
+        z = z.add(w.mul(Range::constant(FRAC_PI_6)));
         i += 1;
     }
     z
 }
 
-// The vector sum of points.
-pub fn sum(n: usize, x: &[f64; 8]) -> Range
+// The vector sum.
+pub fn sum(n: usize, x: [Range; 8]) -> Range
     requires { ⌜ n ≤ 8 ⌝ }
-    ensures { λ r. ⌜ r ≡ ranges .sum n (points (now (x .entry))) ⌝ }
+    ensures { λ r. ⌜ r ≡ ranges .sum n (row x) ⌝ }
 {
     let mut s = Range::ZERO;
     let mut i = 0;
     while i < n {
-        s = s.add(Range::point(x[i]));
+        s = s.add(x[i]);
         i += 1;
     }
     s
@@ -49,24 +48,24 @@ pub fn bmcsl(z0: Range, z1: Range, z2: Range, z3: Range, density: Range) -> Rang
     let zeta2 = z2.mul(density);
     let zeta3 = z3.mul(density);
     let frac_1mz3 = Range::ONE.div(zeta3.sub(Range::ONE)).neg();
-    let a = zeta1.mul(zeta2).mul(frac_1mz3).mul(Range::point(3.0));
+    let a = zeta1.mul(zeta2).mul(frac_1mz3).mul(Range::constant(3.0));
     let b = zeta2.powi(2).mul(frac_1mz3.powi(2)).mul(zeta_23);
     let c = zeta2
         .mul(zeta_23.powi(2))
         .sub(zeta0)
         .mul(ln_1p(zeta3.neg()));
-    a.add(b).add(c).div(Range::point(FRAC_PI_6))
+    a.add(b).add(c).div(Range::constant(FRAC_PI_6))
 }
 
 // By the diameters and the density.
 pub fn helmholtz_energy_density(n: usize, diameter: [Range; 8], s: State, density: Range) -> Range
-    requires { ⌜ (n ≤ 8) × (density ≡ ranges .sum n (points (s .«partial_density»))) ⌝ }
-    ensures { λ r. ⌜ r ≡ F.helmholtz-energy-density ranges n (row diameter) (state ranges s) ⌝ }
+    requires { ⌜ (n ≤ 8) × (density ≡ ranges .sum n (row (s .«partial_density»))) ⌝ }
+    ensures { λ r. ⌜ r ≡ F.helmholtz-energy-density ranges n (row diameter) (state s) ⌝ }
 {
     let x = s.molefracs;
-    let z0 = weighted_zeta(n, diameter, &x, 0);
-    let z1 = weighted_zeta(n, diameter, &x, 1);
-    let z2 = weighted_zeta(n, diameter, &x, 2);
-    let z3 = weighted_zeta(n, diameter, &x, 3);
+    let z0 = weighted_zeta(n, diameter, x, 0);
+    let z1 = weighted_zeta(n, diameter, x, 1);
+    let z2 = weighted_zeta(n, diameter, x, 2);
+    let z3 = weighted_zeta(n, diameter, x, 3);
     bmcsl(z0, z1, z2, z3, density)
 }

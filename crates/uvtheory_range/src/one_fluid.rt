@@ -6,7 +6,7 @@ ghost use mathlib.Core.Path.{_≡_};
 ghost use Prim.Native.Nat.{_≤_};
 ghost use Rattle.range.specs.Rules.{ranges};
 ghost use Rattle.uvtheory.specs.OneFluid as F;
-ghost use Rattle.uvtheory_range.specs.Rows.{points, row, matrix, fluid, Row};
+ghost use Rattle.uvtheory_range.specs.Rows.{row, matrix, fluid};
 
 // The Rust's six values, in its order.
 pub struct OneFluid {
@@ -18,43 +18,29 @@ pub struct OneFluid {
     pub d: Range,
 }
 
-// The n doubles of a row as points.
-pub fn points_of(n: usize, xs: &[f64; 8]) -> [Range; 8]
-    requires { ⌜ n ≤ 8 ⌝ }
-    ensures { λ r. ⌜ Row n r (points (now (xs .entry))) ⌝ }
-{
-    let mut r = [Range::ZERO; 8];
-    let mut i = 0;
-    while i < n {
-        r[i] = Range::point(xs[i]);
-        i += 1;
-    }
-    r
-}
-
 // The dot product with the cubes of a row.
-pub fn mean_cube(n: usize, x: &[f64; 8], s: [Range; 8]) -> Range
+pub fn mean_cube(n: usize, x: [Range; 8], s: [Range; 8]) -> Range
     requires { ⌜ n ≤ 8 ⌝ }
-    ensures { λ r. ⌜ r ≡ F.mean-cube ranges n (points (now (x .entry))) (row s) ⌝ }
+    ensures { λ r. ⌜ r ≡ F.mean-cube ranges n (row x) (row s) ⌝ }
 {
     let mut sum = Range::ZERO;
     let mut i = 0;
     while i < n {
-        sum = sum.add(Range::point(x[i]).mul(s[i].powi(3)));
+        sum = sum.add(x[i].mul(s[i].powi(3)));
         i += 1;
     }
     sum
 }
 
 // x_i x_j f_ij^k, over all pairs.
-pub fn pair_mean(n: usize, x: &[f64; 8], f: [Range; 64], k: u64) -> Range
+pub fn pair_mean(n: usize, x: [Range; 8], f: [Range; 64], k: u64) -> Range
     requires { ⌜ n ≤ 8 ⌝ }
-    ensures { λ r. ⌜ r ≡ F.pair-mean ranges n (points (now (x .entry))) (λ i j. ranges .powi (matrix n f i j) k) ⌝ }
+    ensures { λ r. ⌜ r ≡ F.pair-mean ranges n (row x) (λ i j. ranges .powi (matrix n f i j) k) ⌝ }
 {
     let mut sum = Range::ZERO;
     let mut ij = 0;
     while ij < n * n {
-        let xs = Range::point(x[ij / n]).mul(Range::point(x[ij % n]));
+        let xs = x[ij / n].mul(x[ij % n]);
         sum = sum.add(xs.mul(f[ij].powi(k)));
         ij += 1;
     }
@@ -62,14 +48,14 @@ pub fn pair_mean(n: usize, x: &[f64; 8], f: [Range; 64], k: u64) -> Range
 }
 
 // x_i x_j sigma_ij^k f_ij, over all pairs.
-pub fn virial_sum(n: usize, x: &[f64; 8], sigma_ij: [Range; 64], k: u64, f: [Range; 64]) -> Range
+pub fn virial_sum(n: usize, x: [Range; 8], sigma_ij: [Range; 64], k: u64, f: [Range; 64]) -> Range
     requires { ⌜ n ≤ 8 ⌝ }
-    ensures { λ r. ⌜ r ≡ F.virial-sum ranges n (points (now (x .entry))) (matrix n «sigma_ij») k (matrix n f) ⌝ }
+    ensures { λ r. ⌜ r ≡ F.virial-sum ranges n (row x) (matrix n «sigma_ij») k (matrix n f) ⌝ }
 {
     let mut sum = Range::ZERO;
     let mut ij = 0;
     while ij < n * n {
-        let xs = Range::point(x[ij / n]).mul(Range::point(x[ij % n]));
+        let xs = x[ij / n].mul(x[ij % n]);
         sum = sum.add(xs.mul(sigma_ij[ij].powi(k)).mul(f[ij]));
         ij += 1;
     }
@@ -80,18 +66,18 @@ pub fn virial_sum(n: usize, x: &[f64; 8], sigma_ij: [Range; 64], k: u64, f: [Ran
 pub fn cube_root(v: Range) -> Range
     ensures { λ r. ⌜ r ≡ F.cube-root ranges v ⌝ }
 {
-    powf(v, Range::ONE.div(Range::point(3.0)))
+    powf(v, Range::ONE.div(Range::constant(3.0)))
 }
 
 pub fn one_fluid_properties(
     n: usize,
     c: Combined,
     sigma: [Range; 8],
-    x: &[f64; 8],
+    x: [Range; 8],
     d: [Range; 8],
 ) -> OneFluid
     requires { ⌜ n ≤ 8 ⌝ }
-    ensures { λ r. ⌜ fluid r ≡ F.one-fluid-of ranges n (matrix n (c .«rep_ij»)) (matrix n (c .«att_ij»)) (matrix n (c .«sigma_ij»)) (matrix n (c .«eps_k_ij»)) (row sigma) (points (now (x .entry))) (row d) ⌝ }
+    ensures { λ r. ⌜ fluid r ≡ F.one-fluid-of ranges n (matrix n (c .«rep_ij»)) (matrix n (c .«att_ij»)) (matrix n (c .«sigma_ij»)) (matrix n (c .«eps_k_ij»)) (row sigma) (row x) (row d) ⌝ }
 {
     let rep_ij = c.rep_ij;
     let att_ij = c.att_ij;

@@ -7,17 +7,17 @@ ghost use Rattle.range.specs.Rules.{ranges};
 ghost use Rattle.uvtheory.specs.Rows as Doubles;
 ghost use Rattle.uvtheory.specs.Tables.{table};
 ghost use Rattle.uvtheory.specs.PackingFraction as F;
-ghost use Rattle.uvtheory_range.specs.Rows.{points, row};
+ghost use Rattle.uvtheory_range.specs.Rows.{row};
 
-pub fn packing_fraction(n: usize, partial_density: &[f64; 8], diameter: [Range; 8]) -> Range
+pub fn packing_fraction(n: usize, partial_density: [Range; 8], diameter: [Range; 8]) -> Range
     requires { ⌜ n ≤ 8 ⌝ }
-    ensures { λ r. ⌜ r ≡ F.packing-fraction ranges n (points (now («partial_density» .entry))) (row diameter) ⌝ }
+    ensures { λ r. ⌜ r ≡ F.packing-fraction ranges n (row «partial_density») (row diameter) ⌝ }
 {
-    let c = Range::point(PI).div(Range::point(6.0));
+    let c = Range::constant(PI).div(Range::constant(6.0));
     let mut eta = Range::ZERO;
     let mut i = 0;
     while i < n {
-        let rho = Range::point(partial_density[i]);
+        let rho = partial_density[i];
         eta = eta.add(rho.mul(diameter[i].powi(3)).mul(c));
         i += 1;
     }
@@ -28,8 +28,8 @@ pub fn packing_fraction(n: usize, partial_density: &[f64; 8], diameter: [Range; 
 pub fn coefficient_b(b: [f64; 2], tau: Range) -> Range
     ensures { λ r. ⌜ r ≡ F.coefficient-b ranges (Doubles.row b) tau ⌝ }
 {
-    tau.mul(Range::point(b[0]))
-        .add(tau.mul(tau).mul(Range::point(b[1])))
+    tau.mul(Range::constant(b[0]))
+        .add(tau.mul(tau).mul(Range::constant(b[1])))
 }
 
 pub fn packing_fraction_b(b: [[f64; 2]; 3], eta: Range, tau: Range) -> Range
@@ -47,8 +47,8 @@ pub fn packing_fraction_b(b: [[f64; 2]; 3], eta: Range, tau: Range) -> Range
 fn coefficient_a(a: [f64; 4], tau: Range, rep_inv: Range) -> Range
     ensures { λ r. ⌜ r ≡ F.coefficient-a ranges (Doubles.row a) tau «rep_inv» ⌝ }
 {
-    let first = Range::point(a[0]).add(Range::point(a[1]).mul(rep_inv));
-    let second = Range::point(a[2]).add(Range::point(a[3]).mul(rep_inv));
+    let first = Range::constant(a[0]).add(Range::constant(a[1]).mul(rep_inv));
+    let second = Range::constant(a[2]).add(Range::constant(a[3]).mul(rep_inv));
     tau.mul(first).add(tau.mul(tau).mul(second))
 }
 

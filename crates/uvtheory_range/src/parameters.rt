@@ -11,7 +11,32 @@ ghost use Rattle.range.specs.Rules.{ranges};
 ghost use Rattle.uvtheory.specs.Literals as N;
 ghost use Rattle.uvtheory.specs.Parameters as F;
 ghost use Rattle.uvtheory.specs.Rows as Doubles;
+ghost use Rattle.uvtheory_range.specs.Rows as Rows;
+ghost use Rattle.uvtheory_range.specs.Rows.{row};
 ghost use Rattle.uvtheory_range.specs.Held.{PairOf, CombinedOf};
+
+// StateHD on ranges.
+pub struct State {
+    pub temperature: Range,
+    pub partial_density: [Range; 8],
+    pub molefracs: [Range; 8],
+}
+
+// Doubles as sent.
+pub fn constants(xs: [f64; 8]) -> [Range; 8]
+    ensures { λ r. ⌜ row r ≡ Rows.constants xs ⌝ }
+{
+    [
+        Range::constant(xs[0]),
+        Range::constant(xs[1]),
+        Range::constant(xs[2]),
+        Range::constant(xs[3]),
+        Range::constant(xs[4]),
+        Range::constant(xs[5]),
+        Range::constant(xs[6]),
+        Range::constant(xs[7]),
+    ]
+}
 
 // The combined values of a pair.
 pub struct Pair {
@@ -40,7 +65,7 @@ pub fn mie_prefactor(rep: Range, att: Range) -> Range
 pub fn mean_field_of(c: Range, rep: Range, att: Range, x: Range) -> Range
     ensures { λ r. ⌜ r ≡ F.mean-field-of ranges c rep att x ⌝ }
 {
-    let three = Range::point(3.0);
+    let three = Range::constant(3.0);
     let a = powf(x, att.neg().add(three)).div(att.sub(three));
     let r = powf(x, rep.neg().add(three)).div(rep.sub(three));
     c.mul(a.sub(r))
@@ -56,17 +81,17 @@ pub fn mean_field_constant(rep: Range, att: Range, x: Range) -> Range
 fn cd_bh_times(c: [f64; 3], alpha: Range) -> Range
     ensures { λ r. ⌜ r ≡ F.cd-bh-times ranges (Doubles.row c) alpha ⌝ }
 {
-    let low = Range::point(c[0])
+    let low = Range::constant(c[0])
         .mul(Range::ONE)
-        .add(Range::point(c[1]).mul(alpha));
-    low.add(Range::point(c[2]).mul(alpha.mul(alpha)))
+        .add(Range::constant(c[1]).mul(alpha));
+    low.add(Range::constant(c[2]).mul(alpha.mul(alpha)))
 }
 
 // The reciprocal that every substance's alpha is taken from: of rep 7 and att 6.
 pub fn inv_a76() -> Range
     ensures { λ r. ⌜ r ≡ F.inv-a76 ranges (ranges .constant N.six) ⌝ }
 {
-    Range::ONE.div(mean_field_constant(Range::point(7.0), Range::point(6.0), Range::ONE))
+    Range::ONE.div(mean_field_constant(Range::constant(7.0), Range::constant(6.0), Range::ONE))
 }
 
 // The coefficients of a substance for att 6, whatever att was sent.
@@ -75,13 +100,13 @@ pub fn bh_coefficients(rep: Range, inv_a76: Range) -> [Range; 5]
     ensures { λ r. ⌜ r ≡ F.bh-coefficients ranges rep (ranges .constant N.six) 0 ∷ F.bh-coefficients ranges rep (ranges .constant N.six) 1 ∷ F.bh-coefficients ranges rep (ranges .constant N.six) 2
         ∷ F.bh-coefficients ranges rep (ranges .constant N.six) 3 ∷ F.bh-coefficients ranges rep (ranges .constant N.six) 4 ∷ [] ⌝ }
 {
-    let six = Range::point(6.0);
+    let six = Range::constant(6.0);
     let c = mie_prefactor(rep, six);
     let alpha = Range::ONE
         .div(mean_field_of(c, rep, six, Range::ONE))
         .sub(inv_a76);
     [
-        Range::point(-2.0).mul(rep).div(six.sub(rep).mul(c)),
+        Range::constant(-2.0).mul(rep).div(six.sub(rep).mul(c)),
         cd_bh_times(CD_BH[0], alpha),
         cd_bh_times(CD_BH[1], alpha),
         cd_bh_times(CD_BH[2], alpha),
@@ -89,18 +114,18 @@ pub fn bh_coefficients(rep: Range, inv_a76: Range) -> [Range; 5]
     ]
 }
 
-// The root of a product of points.
+// The root of a product of constants.
 fn geometric_mean(a: f64, b: f64) -> Range
     ensures { λ r. ⌜ r ≡ ranges .sqrt (ranges .mul (ranges .constant a) (ranges .constant b)) ⌝ }
 {
-    Range::point(a).mul(Range::point(b)).sqrt()
+    Range::constant(a).mul(Range::constant(b)).sqrt()
 }
 
-// The sum of points.
+// The sum of constants.
 fn sum_of(a: f64, b: f64) -> Range
     ensures { λ r. ⌜ r ≡ ranges .add (ranges .constant a) (ranges .constant b) ⌝ }
 {
-    Range::point(a).add(Range::point(b))
+    Range::constant(a).add(Range::constant(b))
 }
 
 // Of i below j, by the rules.
@@ -122,8 +147,8 @@ fn pair_of(m: Mixture, i: usize, j: usize) -> Pair
     Pair {
         rep: reps,
         att: atts,
-        sigma: Range::point(0.5).mul(sum),
-        epsilon_k: Range::ONE.sub(Range::point(k)).mul(epsilons),
+        sigma: Range::constant(0.5).mul(sum),
+        epsilon_k: Range::ONE.sub(Range::constant(k)).mul(epsilons),
     }
 }
 
@@ -144,10 +169,10 @@ fn pair_at(m: Mixture, i: usize, j: usize, worked: Pair) -> Pair
     let sigma = m.sigma;
     let epsilon_k = m.epsilon_k;
     Pair {
-        rep: Range::point(rep[i]),
-        att: Range::point(att[i]),
-        sigma: Range::point(sigma[i]),
-        epsilon_k: Range::point(epsilon_k[i]),
+        rep: Range::constant(rep[i]),
+        att: Range::constant(att[i]),
+        sigma: Range::constant(sigma[i]),
+        epsilon_k: Range::constant(epsilon_k[i]),
     }
 }
 

@@ -8,10 +8,10 @@ ghost use Rattle.uvtheory.specs.ReferenceEnergy as F;
 pub fn energy(a: Range, density: Range) -> Range
     ensures { λ r. ⌜ r ≡ F.energy ranges a density ⌝ }
 {
-    let two = Range::point(2.0);
+    let two = Range::constant(2.0);
     a.neg()
         .mul(density.powi(2))
         .mul(two)
-        .div(Range::point(3.0))
-        .mul(Range::point(PI))
+        .div(Range::constant(3.0))
+        .mul(Range::constant(PI))
 }

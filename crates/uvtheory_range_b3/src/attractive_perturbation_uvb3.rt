@@ -5,7 +5,6 @@ use range_elementary::exponential::powf;
 use range_elementary::exponential::tanh;
 use uvtheory::consts::PI;
 use uvtheory::parameters::Mixture;
-use uvtheory::parameters::State;
 use uvtheory_b3::attractive_perturbation_uvb3::C_B2_RSAP;
 use uvtheory_b3::attractive_perturbation_uvb3::CU_WCA;
 use uvtheory_b3::attractive_perturbation_uvb3::FACTORIALS;
@@ -17,10 +16,11 @@ use uvtheory_b3::attractive_perturbation_uvb3::WHOLES;
 use uvtheory_range::one_fluid::OneFluid;
 use uvtheory_range::one_fluid::mean_cube;
 use uvtheory_range::one_fluid::one_fluid_properties;
-use uvtheory_range::one_fluid::points_of;
 use uvtheory_range::one_fluid::virial_sum;
 use uvtheory_range::packing_fraction::coefficient_b;
 use uvtheory_range::parameters::Combined;
+use uvtheory_range::parameters::State;
+use uvtheory_range::parameters::constants;
 use uvtheory_range::parameters::mean_field_of;
 use uvtheory_range::parameters::mie_prefactor;
 use uvtheory_range_wca::attractive_perturbation::delta_a1u;
@@ -36,10 +36,10 @@ ghost use Prim.Native.Nat.{_≤_, _<_};
 ghost use Rattle.range.specs.Rules.{ranges};
 ghost use Rattle.uvtheory.specs.Literals as N;
 ghost use Rattle.uvtheory.specs.Rows as Doubles;
-ghost use Rattle.uvtheory.specs.Rows.{parameters, state};
+ghost use Rattle.uvtheory.specs.Rows.{parameters};
 ghost use Rattle.uvtheory.specs.Wca.HardSphere.{diameter-wca};
 ghost use Rattle.uvtheory.specs.Wca.AttractivePerturbationUvb3 as F;
-ghost use Rattle.uvtheory_range.specs.Rows.{points, row, matrix, fluid, Row, Matrix};
+ghost use Rattle.uvtheory_range.specs.Rows.{constants, row, matrix, fluid, Row, Matrix, state};
 ghost use Rattle.uvtheory_range.specs.Held.{CombinedOf, Symmetric};
 ghost use Rattle.uvtheory_range_wca.specs.Lengths.{LengthsOf};
 
@@ -48,7 +48,7 @@ fn omega(t_x: Range, e: Range) -> Range
     ensures { λ r. ⌜ r ≡ F.omega ranges «t_x» e ⌝ }
 {
     let one = Range::ONE;
-    let c = one.div(tanh(t_x.mul(Range::point(CU_WCA[7])))).sub(one);
+    let c = one.div(tanh(t_x.mul(Range::constant(CU_WCA[7])))).sub(one);
     let low = e.mul(c.powi(2));
     t_x.if_below(175.0, low, e.mul(Range::ZERO))
 }
@@ -57,11 +57,11 @@ fn u_fraction_wca(rep_x: Range, reduced_density: Range, t_x: Range) -> Range
     ensures { λ r. ⌜ r ≡ F.u-fraction-wca ranges «rep_x» «reduced_density» «t_x» ⌝ }
 {
     let one = Range::ONE;
-    let s = reduced_density.sub(Range::point(CU_WCA[6]));
-    let e = exp(t_x.neg().mul(Range::point(CU_WCA[5])).mul(s.powi(2)));
-    let over = one.div(rep_x.add(Range::point(CU_WCA[4])));
-    let c = over.mul(Range::point(CU_WCA[3]))
-        .add(Range::point(CU_WCA[2]));
+    let s = reduced_density.sub(Range::constant(CU_WCA[6]));
+    let e = exp(t_x.neg().mul(Range::constant(CU_WCA[5])).mul(s.powi(2)));
+    let over = one.div(rep_x.add(Range::constant(CU_WCA[4])));
+    let c = over.mul(Range::constant(CU_WCA[3]))
+        .add(Range::constant(CU_WCA[2]));
     let high = reduced_density.powi(2).mul(c);
     exp(high.add(omega(t_x, e)).neg()).neg().add(one)
 }
@@ -70,10 +70,10 @@ fn u_fraction_wca(rep_x: Range, reduced_density: Range, t_x: Range) -> Range
 fn coefficient_rsap(c: [f64; 4], r1: Range, r2: Range, r3: Range) -> Range
     ensures { λ r. ⌜ r ≡ F.coefficient-rsap-of ranges (Doubles.row c) r1 r2 r3 ⌝ }
 {
-    r1.mul(Range::point(c[1]))
-        .add(r2.mul(Range::point(c[2])))
-        .add(r3.mul(Range::point(c[3])))
-        .add(Range::point(c[0]))
+    r1.mul(Range::constant(c[1]))
+        .add(r2.mul(Range::constant(c[2])))
+        .add(r3.mul(Range::constant(c[3])))
+        .add(Range::constant(c[0]))
 }
 
 // Each power of beta is the one before it times beta.
@@ -85,7 +85,7 @@ fn sum_beta(beta: Range) -> Range
     let mut m = 0;
     while m < 14 {
         power = power.mul(beta);
-        let under = Range::point(FACTORIALS[m]).mul(Range::point(WHOLES[m]));
+        let under = Range::constant(FACTORIALS[m]).mul(Range::constant(WHOLES[m]));
         sum = sum.add(power.div(under));
         m += 1;
     }
@@ -97,9 +97,9 @@ fn b2_of(v: Range) -> Range
     ensures { λ r. ⌜ r ≡ ranges .mul (ranges .div (ranges .mul (ranges .powi v 3) (ranges .constant N.two)) (ranges .constant N.three)) (ranges .constant N.PI) ⌝ }
 {
     v.powi(3)
-        .mul(Range::point(2.0))
-        .div(Range::point(3.0))
-        .mul(Range::point(PI))
+        .mul(Range::constant(2.0))
+        .div(Range::constant(3.0))
+        .mul(Range::constant(PI))
 }
 
 // By the difference b of two virial coefficients of hard spheres, and the four coefficients.
@@ -135,10 +135,12 @@ pub fn delta_b2(reduced_temperature: Range, rep: Range, q: Range, rm: Range) -> 
 fn k1_of(c: [f64; 6], r1: Range, r2: Range, tau: Range) -> Range
     ensures { λ r. ⌜ r ≡ F.k1-of ranges (Doubles.row c) r1 r2 tau ⌝ }
 {
-    let first = r1.mul(Range::point(c[1])).add(r2.mul(Range::point(c[2])));
-    let second = r1.mul(Range::point(c[4])).add(r2.mul(Range::point(c[5])));
-    let rest = second.add(Range::point(c[3])).mul(tau);
-    first.add(Range::point(c[0])).add(rest)
+    let first = r1.mul(Range::constant(c[1]))
+        .add(r2.mul(Range::constant(c[2])));
+    let second = r1.mul(Range::constant(c[4]))
+        .add(r2.mul(Range::constant(c[5])));
+    let rest = second.add(Range::constant(c[3])).mul(tau);
+    first.add(Range::constant(c[0])).add(rest)
 }
 
 // By the prefactor c of nu and att.
@@ -155,9 +157,9 @@ fn delta_b31u(
     let one = Range::ONE;
     let k1 = k1_of(C_WCA[0], one.div(nu), one.div(nu.powi(2)), rm_x.sub(d_x));
     one.div(t_x)
-        .mul(Range::point(4.0))
+        .mul(Range::constant(4.0))
         .mul(c)
-        .mul(Range::point(PI))
+        .mul(Range::constant(PI))
         .mul(k1)
         .mul(weighted_sigma3_ij.powi(2))
 }
@@ -166,8 +168,8 @@ fn delta_b31u(
 fn b3_factor(r: Range, rep_x: Range, l: f64, p: f64) -> Range
     ensures { λ s. ⌜ s ≡ ranges .add (ranges .mul (ranges .div r (ranges .sub «rep_x» (ranges .constant l))) (ranges .constant p)) (ranges .constant N.one) ⌝ }
 {
-    r.div(rep_x.sub(Range::point(l)))
-        .mul(Range::point(p))
+    r.div(rep_x.sub(Range::constant(l)))
+        .mul(Range::constant(p))
         .add(Range::ONE)
 }
 
@@ -185,12 +187,14 @@ fn b3_term(i: usize, t_x: Range, rep_x: Range) -> Range
     let m = M_B3[i];
     let l = L_B3[i];
     let p = P_B3[i];
-    let r = rep_x.sub(Range::point(12.0));
-    let e = b3_factor(r, rep_x, 6.0, m).mul(Range::point(k3));
+    let r = rep_x.sub(Range::constant(12.0));
+    let e = b3_factor(r, rep_x, 6.0, m).mul(Range::constant(k3));
     let s = b3_factor(r, rep_x, l, p);
-    let under = powf(t_x.add(Range::point(k2)), e);
+    let under = powf(t_x.add(Range::constant(k2)), e);
     let over = Range::ONE.div(under);
-    over.mul(Range::point(k1)).mul(s).add(Range::point(k0))
+    over.mul(Range::constant(k1))
+        .mul(s)
+        .add(Range::constant(k0))
 }
 
 // Ten times the square of the volume of a sphere.
@@ -198,18 +202,22 @@ fn ten_volumes(d: Range) -> Range
     ensures { λ r. ⌜ r ≡ F.ten-volumes ranges d ⌝ }
 {
     d.powi(3)
-        .mul(Range::point(PI))
-        .div(Range::point(6.0))
+        .mul(Range::constant(PI))
+        .div(Range::constant(6.0))
         .powi(2)
-        .mul(Range::point(10.0))
+        .mul(Range::constant(10.0))
 }
 
 // By the first row of WCA_CONSTANTS_ETA_A_UVB3. Its sums stand the other way round than in packing_fraction_a.
 fn c1_eta_a(a: [f64; 4], tau: Range, rep_inv: Range) -> Range
     ensures { λ r. ⌜ r ≡ F.c1-eta-a ranges (Doubles.row a) tau «rep_inv» ⌝ }
 {
-    let first = rep_inv.mul(Range::point(a[1])).add(Range::point(a[0]));
-    let second = rep_inv.mul(Range::point(a[3])).add(Range::point(a[2]));
+    let first = rep_inv
+        .mul(Range::constant(a[1]))
+        .add(Range::constant(a[0]));
+    let second = rep_inv
+        .mul(Range::constant(a[3]))
+        .add(Range::constant(a[2]));
     tau.mul(first).add(tau.mul(tau).mul(second))
 }
 
@@ -230,9 +238,9 @@ fn b30_uv(rm_x: Range, rep_x: Range, d_x: Range, q_x: Range) -> Range
     let rm3 = rm_x.powi(3);
     let a = b30_part(q_x.powi(3), rm3, c1_eta_a);
     let b = b30_part(d3, rm3, c1_eta_b);
-    let c = d3.mul(Range::point(5.0))
-        .div(Range::point(9.0))
-        .mul(Range::point(PI).powi(2));
+    let c = d3.mul(Range::constant(5.0))
+        .div(Range::constant(9.0))
+        .mul(Range::constant(PI).powi(2));
     ten_volumes(d_x).sub(c.mul(a.sub(b)))
 }
 
@@ -252,8 +260,11 @@ fn alpha(rho_x: Range, rep_x: Range, t_x: Range) -> Range
     ensures { λ r. ⌜ r ≡ F.alpha ranges «rho_x» «rep_x» «t_x» ⌝ }
 {
     let one = Range::ONE;
-    let first = rho_x.neg().mul(one.div(rep_x)).mul(Range::point(CU_WCA[0]));
-    let second = one.div(t_x.powi(2)).mul(Range::point(CU_WCA[1]));
+    let first = rho_x
+        .neg()
+        .mul(one.div(rep_x))
+        .mul(Range::constant(CU_WCA[0]));
+    let second = one.div(t_x.powi(2)).mul(Range::constant(CU_WCA[1]));
     exp(first.mul(second.add(one)))
 }
 
@@ -261,7 +272,7 @@ fn alpha(rho_x: Range, rep_x: Range, t_x: Range) -> Range
 fn virial_terms(density: Range, a: Range, b2: Range, b3: Range) -> Range
     ensures { λ r. ⌜ r ≡ ranges .add (ranges .mul b2 density) (ranges .mul (ranges .mul (ranges .mul (ranges .powi density 2) a) b3) (ranges .constant N.half)) ⌝ }
 {
-    let third = density.powi(2).mul(a).mul(b3).mul(Range::point(0.5));
+    let third = density.powi(2).mul(a).mul(b3).mul(Range::constant(0.5));
     b2.mul(density).add(third)
 }
 
@@ -349,8 +360,8 @@ fn delta_b3_at(
 ) -> Range
     ensures { λ r. ⌜ r ≡ F.delta-b3 ranges (ranges .div t «eps_k») rm rep (ranges .mul (ranges .add (ranges .div di (ranges .constant si)) (ranges .div dj (ranges .constant sj))) (ranges .constant N.half)) q ⌝ }
 {
-    let d = di.div(Range::point(si)).add(dj.div(Range::point(sj)));
-    delta_b3(t.div(eps_k), rm, rep, d.mul(Range::point(0.5)), q)
+    let d = di.div(Range::constant(si)).add(dj.div(Range::constant(sj)));
+    delta_b3(t.div(eps_k), rm, rep, d.mul(Range::constant(0.5)), q)
 }
 
 fn delta_b3_ij(
@@ -363,7 +374,7 @@ fn delta_b3_ij(
 ) -> [Range; 64]
     requires { ⌜ n ≤ 8 ⌝ }
     ensures { λ r. ⌜ Matrix n r (λ i j. F.delta-b3 ranges (ranges .div t (matrix n (c .«eps_k_ij») i j)) (matrix n (l .rm) i j) (matrix n (c .«rep_ij») i j)
-        (ranges .mul (ranges .add (ranges .div (row d i) (points (now (sigma .entry)) i)) (ranges .div (row d j) (points (now (sigma .entry)) j))) (ranges .constant N.half)) (matrix n (l .q) i j)) ⌝ }
+        (ranges .mul (ranges .add (ranges .div (row d i) (constants (now (sigma .entry)) i)) (ranges .div (row d j) (constants (now (sigma .entry)) j))) (ranges .constant N.half)) (matrix n (l .q) i j)) ⌝ }
 {
     let rep_ij = c.rep_ij;
     let eps_k_ij = c.eps_k_ij;
@@ -399,21 +410,21 @@ pub fn helmholtz_energy_density(
     d: [Range; 8],
     density: Range,
 ) -> Range
-    requires { ⌜ (m .n ≤ 8) × CombinedOf m c × LengthsOf m (ranges .constant (s .temperature)) l × Row (m .n) d (diameter-wca ranges (parameters ranges m) (ranges .constant (s .temperature))) ⌝ }
-    requires { ⌜ density ≡ ranges .sum (m .n) (points (s .«partial_density»)) ⌝ }
-    ensures { λ r. ⌜ r ≡ F.helmholtz-energy-density ranges (parameters ranges m) (state ranges s) ⌝ }
+    requires { ⌜ (m .n ≤ 8) × CombinedOf m c × LengthsOf m (s .temperature) l × Row (m .n) d (diameter-wca ranges (parameters ranges m) (s .temperature)) ⌝ }
+    requires { ⌜ density ≡ ranges .sum (m .n) (row (s .«partial_density»)) ⌝ }
+    ensures { λ r. ⌜ r ≡ F.helmholtz-energy-density ranges (parameters ranges m) (state s) ⌝ }
 {
     let n = m.n;
-    let t = Range::point(s.temperature);
+    let t = s.temperature;
     let x = s.molefracs;
     let sent = m.sigma;
     let sigma_ij = c.sigma_ij;
-    let sigma = points_of(n, &sent);
-    let o = one_fluid_properties(n, c, sigma, &x, d);
+    let sigma = constants(sent);
+    let o = one_fluid_properties(n, c, sigma, x, d);
     let b2 = delta_b2_ij(n, c, t, l);
-    let b2bar = virial_sum(n, &x, sigma_ij, 3, b2);
+    let b2bar = virial_sum(n, x, sigma_ij, 3, b2);
     let b3 = delta_b3_ij(n, c, t, l, d, &sent);
-    let b3bar = virial_sum(n, &x, sigma_ij, 6, b3);
-    let rho = density.mul(mean_cube(n, &x, sigma));
+    let b3bar = virial_sum(n, x, sigma_ij, 6, b3);
+    let rho = density.mul(mean_cube(n, x, sigma));
     energy(o, t, density, rho, b2bar, b3bar)
 }

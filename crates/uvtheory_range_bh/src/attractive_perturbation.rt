@@ -7,7 +7,6 @@ use range_elementary::logarithm::ln;
 use uvtheory::consts::FRAC_PI_3;
 use uvtheory::consts::PI;
 use uvtheory::parameters::Mixture;
-use uvtheory::parameters::State;
 use uvtheory_bh::attractive_perturbation::C_BH;
 use uvtheory_bh::attractive_perturbation::C2;
 use uvtheory_bh::attractive_perturbation::CU_BH;
@@ -15,30 +14,31 @@ use uvtheory_range::beta_eff::coefficient_2;
 use uvtheory_range::one_fluid::OneFluid;
 use uvtheory_range::one_fluid::mean_cube;
 use uvtheory_range::one_fluid::one_fluid_properties;
-use uvtheory_range::one_fluid::points_of;
 use uvtheory_range::one_fluid::virial_sum;
 use uvtheory_range::parameters::Combined;
+use uvtheory_range::parameters::State;
+use uvtheory_range::parameters::constants;
 use uvtheory_range::parameters::mean_field_of;
 use uvtheory_range::parameters::mie_prefactor;
 ghost use mathlib.Core.Path.{_≡_};
 ghost use Prim.Native.Nat.{_≤_, _<_};
 ghost use Rattle.range.specs.Rules.{ranges};
 ghost use Rattle.uvtheory.specs.Rows as Doubles;
-ghost use Rattle.uvtheory.specs.Rows.{parameters, state};
+ghost use Rattle.uvtheory.specs.Rows.{parameters};
 ghost use Rattle.uvtheory.specs.Bh.HardSphere.{diameter-bh};
 ghost use Rattle.uvtheory.specs.Bh.AttractivePerturbation as F;
-ghost use Rattle.uvtheory_range.specs.Rows.{points, matrix, fluid, Row, Matrix};
+ghost use Rattle.uvtheory_range.specs.Rows.{row, matrix, fluid, Row, Matrix, state};
 ghost use Rattle.uvtheory_range.specs.Held.{CombinedOf, Symmetric};
 
 fn delta_b12u(t_x: Range, mean_field_constant_x: Range, weighted_sigma3_ij: Range) -> Range
     ensures { λ r. ⌜ r ≡ F.delta-b12u ranges «t_x» «mean_field_constant_x» «weighted_sigma3_ij» ⌝ }
 {
-    let two = Range::point(2.0);
+    let two = Range::constant(2.0);
     mean_field_constant_x
         .neg()
         .div(t_x)
         .mul(two)
-        .mul(Range::point(PI))
+        .mul(Range::constant(PI))
         .mul(weighted_sigma3_ij)
 }
 
@@ -59,8 +59,8 @@ fn y_eff(beta: Range, rep: Range, a_rs: Range, alpha: Range) -> Range
     ensures { λ r. ⌜ r ≡ F.y-eff-of ranges beta rep «a_rs» alpha ⌝ }
 {
     let one = Range::ONE;
-    let shell = Range::point(5.0).powi(3).sub(one.powi(3));
-    let c0 = one.sub(Range::point(3.0).mul(a_rs.sub(alpha)).div(shell));
+    let shell = Range::constant(5.0).powi(3).sub(one.powi(3));
+    let c0 = one.sub(Range::constant(3.0).mul(a_rs.sub(alpha)).div(shell));
     exp(beta_eff(beta, rep, c0)).sub(one)
 }
 
@@ -68,31 +68,31 @@ pub fn delta_b2(reduced_temperature: Range, rep: Range, att: Range) -> Range
     ensures { λ r. ⌜ r ≡ F.delta-b2 ranges «reduced_temperature» rep att ⌝ }
 {
     let one = Range::ONE;
-    let rc = Range::point(5.0);
+    let rc = Range::constant(5.0);
     let c = mie_prefactor(rep, att);
     let alpha = mean_field_of(c, rep, att, rc);
     let beta = one.div(reduced_temperature);
     let yeff = y_eff(beta, rep, mean_field_of(c, rep, att, one), alpha);
-    let shell = yeff.mul(rc.powi(3).sub(one)).div(Range::point(3.0));
+    let shell = yeff.mul(rc.powi(3).sub(one)).div(Range::constant(3.0));
     shell
         .add(beta.mul(alpha))
         .neg()
-        .mul(Range::point(2.0))
-        .mul(Range::point(PI))
+        .mul(Range::constant(2.0))
+        .mul(Range::constant(PI))
 }
 
 fn c11(rep: Range, d: Range, d_rep: Range) -> Range
     ensures { λ r. ⌜ r ≡ F.c11 ranges rep d «d_rep» ⌝ }
 {
     let one = Range::ONE;
-    let three = Range::point(3.0);
+    let three = Range::constant(3.0);
     let s = rep.neg().add(three);
-    let p = powf(one.mul(Range::point(2.0)), s).sub(powf(d, rep.sub(three)));
+    let p = powf(one.mul(Range::constant(2.0)), s).sub(powf(d, rep.sub(three)));
     let q = d.powi(3)
         .neg()
-        .mul(Range::point(8.0))
+        .mul(Range::constant(8.0))
         .add(one)
-        .div(Range::point(24.0));
+        .div(Range::constant(24.0));
     d_rep.mul(p).div(s).add(q)
 }
 
@@ -100,39 +100,43 @@ fn c12(rep: Range, d: Range, d_rep: Range) -> Range
     ensures { λ r. ⌜ r ≡ F.c12 ranges rep d «d_rep» ⌝ }
 {
     let one = Range::ONE;
-    let four = Range::point(4.0);
+    let four = Range::constant(4.0);
     let s = rep.neg().add(four);
-    let p = powf(one.mul(Range::point(2.0)), s).sub(powf(d, rep.sub(four)));
-    let q = d.powi(2).neg().mul(four).add(one).div(Range::point(8.0));
-    d_rep.mul(p).div(s).add(q).mul(Range::point(-0.75))
+    let p = powf(one.mul(Range::constant(2.0)), s).sub(powf(d, rep.sub(four)));
+    let q = d.powi(2).neg().mul(four).add(one).div(Range::constant(8.0));
+    d_rep.mul(p).div(s).add(q).mul(Range::constant(-0.75))
 }
 
 fn c13(rep: Range, att: Range, d: Range) -> Range
     ensures { λ r. ⌜ r ≡ F.c13 ranges rep att d ⌝ }
 {
-    let six = Range::point(6.0);
+    let six = Range::constant(6.0);
     let s = rep.neg().add(six);
-    let d2 = d.mul(Range::point(2.0));
+    let d2 = d.mul(Range::constant(2.0));
     let p = powf(d2, s).sub(Range::ONE).div(s);
     p.sub(ln(d2).mul(powf(d, att.neg().add(six))))
-        .div(Range::point(16.0))
+        .div(Range::constant(16.0))
 }
 
 fn coefficient_1(rep: Range, att: Range, d: Range) -> Range
     ensures { λ r. ⌜ r ≡ F.coefficient-1 ranges rep att d ⌝ }
 {
-    let d_rep = powf(d, rep.neg().add(Range::point(6.0)));
+    let d_rep = powf(d, rep.neg().add(Range::constant(6.0)));
     let c = c11(rep, d, d_rep).add(c12(rep, d, d_rep))
         .add(c13(rep, att, d));
-    c.mul(Range::point(FRAC_PI_3)).mul(Range::point(4.0))
+    c.mul(Range::constant(FRAC_PI_3)).mul(Range::constant(4.0))
 }
 
 // By its row of C_BH.
 fn coefficient(c: [f64; 4], rep_inv: Range, d: Range) -> Range
     ensures { λ r. ⌜ r ≡ F.coefficient ranges (Doubles.row c) «rep_inv» d ⌝ }
 {
-    let first = rep_inv.mul(Range::point(c[1])).add(Range::point(c[0]));
-    let second = rep_inv.mul(Range::point(c[3])).add(Range::point(c[2]));
+    let first = rep_inv
+        .mul(Range::constant(c[1]))
+        .add(Range::constant(c[0]));
+    let second = rep_inv
+        .mul(Range::constant(c[3]))
+        .add(Range::constant(c[2]));
     first.sub(second.mul(d.neg().add(Range::ONE)))
 }
 
@@ -169,7 +173,9 @@ fn activation(c: Range, one_fluid_beta: Range) -> Range
 fn coefficient_u(c: [f64; 2], inv_rep: Range) -> Range
     ensures { λ r. ⌜ r ≡ F.coefficient-u ranges (Doubles.row c) «inv_rep» ⌝ }
 {
-    inv_rep.mul(Range::point(c[1])).add(Range::point(c[0]))
+    inv_rep
+        .mul(Range::constant(c[1]))
+        .add(Range::constant(c[0]))
 }
 
 fn u_fraction_bh(rep_x: Range, reduced_density: Range, one_fluid_beta: Range) -> Range
@@ -181,8 +187,8 @@ fn u_fraction_bh(rep_x: Range, reduced_density: Range, one_fluid_beta: Range) ->
     let c1 = coefficient_u(CU_BH[1], inv_rep);
     let c2 = coefficient_u(CU_BH[2], inv_rep);
     let c3 = coefficient_u(CU_BH[3], inv_rep);
-    let a = powf(reduced_density, Range::point(1.2187)).mul(c2);
-    let b = powf(reduced_density, Range::point(4.2773)).mul(c3);
+    let a = powf(reduced_density, Range::constant(1.2187)).mul(c2);
+    let b = powf(reduced_density, Range::constant(4.2773)).mul(c3);
     activation(c1, one_fluid_beta)
         .mul(c0.neg().add(one))
         .add(c0)
@@ -201,8 +207,8 @@ pub fn energy(o: OneFluid, t: Range, density: Range, rho: Range, b2bar: Range) -
     let part = density
         .div(t_x)
         .mul(i_bh)
-        .mul(Range::point(2.0))
-        .mul(Range::point(PI));
+        .mul(Range::constant(2.0))
+        .mul(Range::constant(PI));
     let delta_a1u = part.mul(o.weighted_sigma3_ij);
     let u_fraction = u_fraction_bh(o.rep, rho, one.div(t_x));
     let b21u = delta_b12u(t_x, mean_field_constant_x, o.weighted_sigma3_ij);
@@ -256,19 +262,19 @@ pub fn helmholtz_energy_density(
     d: [Range; 8],
     density: Range,
 ) -> Range
-    requires { ⌜ (m .n ≤ 8) × CombinedOf m c × Row (m .n) d (diameter-bh ranges (parameters ranges m) (ranges .constant (s .temperature))) ⌝ }
-    requires { ⌜ density ≡ ranges .sum (m .n) (points (s .«partial_density»)) ⌝ }
-    ensures { λ r. ⌜ r ≡ F.helmholtz-energy-density ranges (parameters ranges m) (state ranges s) ⌝ }
+    requires { ⌜ (m .n ≤ 8) × CombinedOf m c × Row (m .n) d (diameter-bh ranges (parameters ranges m) (s .temperature)) ⌝ }
+    requires { ⌜ density ≡ ranges .sum (m .n) (row (s .«partial_density»)) ⌝ }
+    ensures { λ r. ⌜ r ≡ F.helmholtz-energy-density ranges (parameters ranges m) (state s) ⌝ }
 {
     let n = m.n;
-    let t = Range::point(s.temperature);
+    let t = s.temperature;
     let x = s.molefracs;
     let sent = m.sigma;
     let sigma_ij = c.sigma_ij;
-    let sigma = points_of(n, &sent);
-    let o = one_fluid_properties(n, c, sigma, &x, d);
+    let sigma = constants(sent);
+    let o = one_fluid_properties(n, c, sigma, x, d);
     let b2 = delta_b2_ij(n, c, t);
-    let b2bar = virial_sum(n, &x, sigma_ij, 3, b2);
-    let rho = density.mul(mean_cube(n, &x, sigma));
+    let b2bar = virial_sum(n, x, sigma_ij, 3, b2);
+    let rho = density.mul(mean_cube(n, x, sigma));
     energy(o, t, density, rho, b2bar)
 }

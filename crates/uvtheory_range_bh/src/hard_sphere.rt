@@ -18,9 +18,9 @@ ghost use Rattle.uvtheory_range.specs.Rows.{Row};
 fn quarter_powers(t: Range, c1: Range, c2: Range, c3: Range) -> Range
     ensures { λ r. ⌜ r ≡ F.quarter-powers ranges t c1 c2 c3 ⌝ }
 {
-    let low = powf(t, Range::point(0.25)).mul(c1)
-        .add(powf(t, Range::point(0.75)).mul(c2));
-    low.add(powf(t, Range::point(1.25)).mul(c3))
+    let low = powf(t, Range::constant(0.25)).mul(c1)
+        .add(powf(t, Range::constant(0.75)).mul(c2));
+    low.add(powf(t, Range::constant(1.25)).mul(c3))
 }
 
 // Of one component, by its reduced temperature t, d, which holds the powers of t, and two of its coefficients.
@@ -32,7 +32,7 @@ fn diameter_of(t: Range, d: Range, c0: Range, c4: Range, rep: Range, sigma: Rang
         .add(d.mul(ln(t.add(one))))
         .add(t.powi(2).mul(c4))
         .add(one);
-    powf(v, Range::point(-0.5).div(rep)).mul(sigma)
+    powf(v, Range::constant(-0.5).div(rep)).mul(sigma)
 }
 
 // Of one component, as sent.
@@ -47,11 +47,11 @@ fn component_diameter(
     ensures { λ r. ⌜ r ≡ F.diameter-of ranges (ranges .div temperature (ranges .constant «epsilon_k»)) (P.bh-coefficients ranges (ranges .constant rep) (ranges .constant N.six) 0) (P.bh-coefficients ranges (ranges .constant rep) (ranges .constant N.six) 1) (P.bh-coefficients ranges (ranges .constant rep) (ranges .constant N.six) 2)
         (P.bh-coefficients ranges (ranges .constant rep) (ranges .constant N.six) 3) (P.bh-coefficients ranges (ranges .constant rep) (ranges .constant N.six) 4) (ranges .constant rep) (ranges .constant sigma) ⌝ }
 {
-    let rep = Range::point(rep);
-    let t = temperature.div(Range::point(epsilon_k));
+    let rep = Range::constant(rep);
+    let t = temperature.div(Range::constant(epsilon_k));
     let c = bh_coefficients(rep, inv_a76);
     let d = quarter_powers(t, c[1], c[2], c[3]);
-    diameter_of(t, d, c[0], c[4], rep, Range::point(sigma))
+    diameter_of(t, d, c[0], c[4], rep, Range::constant(sigma))
 }
 
 pub fn diameter_bh(m: Mixture, temperature: Range) -> [Range; 8]
@@ -79,6 +79,6 @@ pub fn tau(di: Range, si: Range, dj: Range, sj: Range) -> Range
     di.div(si)
         .add(dj.div(sj))
         .neg()
-        .mul(Range::point(0.5))
+        .mul(Range::constant(0.5))
         .add(Range::ONE)
 }

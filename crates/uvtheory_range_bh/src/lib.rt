@@ -4,28 +4,29 @@ pub mod hard_sphere;
 pub mod reference_perturbation;
 
 use crate::hard_sphere::diameter_bh;
-use range::basic::Range;
 use uvtheory::parameters::Mixture;
-use uvtheory::parameters::State;
 use uvtheory_range::contributions::Contributions;
 use uvtheory_range::hard_sphere::sum;
+use uvtheory_range::parameters::State;
 use uvtheory_range::parameters::combine;
 ghost use Prim.Native.Nat.{_≤_};
 ghost use Rattle.range.specs.Rules.{ranges};
-ghost use Rattle.uvtheory.specs.Rows.{parameters, state};
+ghost use Rattle.uvtheory.specs.Rows.{parameters};
 ghost use Rattle.uvtheory.specs.Bh as F;
+ghost use Rattle.uvtheory_range.specs.Rows.{state};
 ghost use Rattle.uvtheory_range.specs.Held.{ContributionsOf};
 
 // The combined values, the diameters and the density are worked once.
 pub fn residual_helmholtz_energy_contributions(m: Mixture, s: State) -> Contributions
     requires { ⌜ m .n ≤ 8 ⌝ }
-    ensures { λ r. ⌜ ContributionsOf r (F.residual-helmholtz-energy-contributions ranges (parameters ranges m) (state ranges s)) ⌝ }
+    ensures { λ r. ⌜ ContributionsOf r (F.residual-helmholtz-energy-contributions ranges (parameters ranges m) (state s)) ⌝ }
 {
     let n = m.n;
     let partial_density = s.partial_density;
     let c = combine(m);
-    let d = diameter_bh(m, Range::point(s.temperature));
-    let density = sum(n, &partial_density);
+    let t = s.temperature;
+    let d = diameter_bh(m, t);
+    let density = sum(n, partial_density);
     Contributions {
         hard_sphere: uvtheory_range::hard_sphere::helmholtz_energy_density(n, d, s, density),
         reference: reference_perturbation::helmholtz_energy_density(m, s, c, d, density),

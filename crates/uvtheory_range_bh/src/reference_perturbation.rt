@@ -2,22 +2,22 @@
 use crate::hard_sphere::tau;
 use range::basic::Range;
 use uvtheory::parameters::Mixture;
-use uvtheory::parameters::State;
 use uvtheory_bh::hard_sphere::BH_CONSTANTS_ETA_A;
 use uvtheory_bh::hard_sphere::BH_CONSTANTS_ETA_B;
 use uvtheory_range::packing_fraction::packing_fraction;
 use uvtheory_range::packing_fraction::packing_fraction_a;
 use uvtheory_range::packing_fraction::packing_fraction_b;
 use uvtheory_range::parameters::Combined;
+use uvtheory_range::parameters::State;
 use uvtheory_range::reference_energy::energy;
 ghost use mathlib.Core.Path.{_≡_};
 ghost use Prim.Native.Nat.{_≤_, _<_};
 ghost use Rattle.arithmetic.specs.Sums.{pairs};
 ghost use Rattle.range.specs.Rules.{ranges};
-ghost use Rattle.uvtheory.specs.Rows.{parameters, state};
+ghost use Rattle.uvtheory.specs.Rows.{parameters};
 ghost use Rattle.uvtheory.specs.Bh.HardSphere.{diameter-bh};
 ghost use Rattle.uvtheory.specs.Bh.ReferencePerturbation as F;
-ghost use Rattle.uvtheory_range.specs.Rows.{points, row, matrix, Row};
+ghost use Rattle.uvtheory_range.specs.Rows.{constants, row, matrix, Row, state};
 ghost use Rattle.uvtheory_range.specs.Held.{CombinedOf};
 
 // Of a pair of components.
@@ -33,7 +33,7 @@ fn term(
     ensures { λ r. ⌜ r ≡ F.term ranges xi xj «eta_a» «eta_b» di dj «sigma_ij» ⌝ }
 {
     let one = Range::ONE;
-    let half = Range::point(0.5);
+    let half = Range::constant(0.5);
     let d_ij = di.add(dj).mul(half);
     let a = eta_a
         .neg()
@@ -66,21 +66,21 @@ fn term_of(i: Component, j: Component, sigma_ij: Range, rep_ij: Range, eta: Rang
     term(i.x, j.x, eta_a, eta_b, i.d, j.d, sigma_ij)
 }
 
-fn component_of(i: usize, x: &[f64; 8], d: [Range; 8], sigma: &[f64; 8]) -> Component
+fn component_of(i: usize, x: [Range; 8], d: [Range; 8], sigma: &[f64; 8]) -> Component
     requires { ⌜ i < 8 ⌝ }
-    ensures { λ r. ⌜ r ≡ record { x = points (now (x .entry)) i; d = row d i; sigma = points (now (sigma .entry)) i } ⌝ }
+    ensures { λ r. ⌜ r ≡ record { x = row x i; d = row d i; sigma = constants (now (sigma .entry)) i } ⌝ }
 {
     Component {
-        x: Range::point(x[i]),
+        x: x[i],
         d: d[i],
-        sigma: Range::point(sigma[i]),
+        sigma: Range::constant(sigma[i]),
     }
 }
 
 // The sum of the terms over all pairs.
 pub fn pair_sum(
     n: usize,
-    x: &[f64; 8],
+    x: [Range; 8],
     d: [Range; 8],
     sigma: &[f64; 8],
     sigma_ij: [Range; 64],
@@ -88,7 +88,7 @@ pub fn pair_sum(
     eta: Range,
 ) -> Range
     requires { ⌜ n ≤ 8 ⌝ }
-    ensures { λ r. ⌜ r ≡ pairs ranges n (F.term-ij ranges (points (now (x .entry))) (row d) (points (now (sigma .entry))) (matrix n «sigma_ij») (matrix n «rep_ij») eta) ⌝ }
+    ensures { λ r. ⌜ r ≡ pairs ranges n (F.term-ij ranges (row x) (row d) (constants (now (sigma .entry))) (matrix n «sigma_ij») (matrix n «rep_ij») eta) ⌝ }
 {
     let mut sum = Range::ZERO;
     let mut k = 0;
@@ -109,16 +109,16 @@ pub fn helmholtz_energy_density(
     d: [Range; 8],
     density: Range,
 ) -> Range
-    requires { ⌜ (m .n ≤ 8) × CombinedOf m c × Row (m .n) d (diameter-bh ranges (parameters ranges m) (ranges .constant (s .temperature))) ⌝ }
-    requires { ⌜ density ≡ ranges .sum (m .n) (points (s .«partial_density»)) ⌝ }
-    ensures { λ r. ⌜ r ≡ F.helmholtz-energy-density ranges (parameters ranges m) (state ranges s) ⌝ }
+    requires { ⌜ (m .n ≤ 8) × CombinedOf m c × Row (m .n) d (diameter-bh ranges (parameters ranges m) (s .temperature)) ⌝ }
+    requires { ⌜ density ≡ ranges .sum (m .n) (row (s .«partial_density»)) ⌝ }
+    ensures { λ r. ⌜ r ≡ F.helmholtz-energy-density ranges (parameters ranges m) (state s) ⌝ }
 {
     let x = s.molefracs;
     let partial_density = s.partial_density;
     let sigma = m.sigma;
     let sigma_ij = c.sigma_ij;
     let rep_ij = c.rep_ij;
-    let eta = packing_fraction(m.n, &partial_density, d);
-    let a = pair_sum(m.n, &x, d, &sigma, sigma_ij, rep_ij, eta);
+    let eta = packing_fraction(m.n, partial_density, d);
+    let a = pair_sum(m.n, x, d, &sigma, sigma_ij, rep_ij, eta);
     energy(a, density)
 }

@@ -1,6 +1,6 @@
 -- The tables of the pairs' lengths hold the formulas' values in ranges, and are symmetric.
 use Rattle.range.specs.declared.basic.Range.{Range}
-use Rattle.range.specs.Rules.{failed, ranges}
+use Rattle.range.specs.Rules.{ranges}
 use Rattle.uvtheory.specs.declared.parameters.Mixture.{Mixture}
 use Rattle.uvtheory.specs.Rows.{parameters}
 use Rattle.uvtheory.specs.Wca.HardSphere.{rm-of, dimensionless-diameter-q-wca}
@@ -8,7 +8,7 @@ use Rattle.uvtheory.proofs.Combined.{flip}
 use Rattle.uvtheory_wca.proofs.Lengths.{worked-from-two, symmetric-from-two, worked-from-three, symmetric-from-three}
 use Rattle.uvtheory_range.specs.declared.parameters.Combined.{Combined}
 use Rattle.uvtheory_range_wca.specs.declared.hard_sphere.LengthTables.{LengthTables}
-use Rattle.uvtheory_range.specs.Rows.{matrix, Matrix}
+use Rattle.uvtheory_range.specs.Rows.{missing, matrix, Matrix}
 use Rattle.uvtheory_range.specs.Held.{CombinedOf, Symmetric}
 use Rattle.uvtheory_range_wca.specs.Lengths.{LengthsOf}
 
@@ -21,13 +21,13 @@ pub lengths-are : (m : Mixture) (c : Combined) (t : Range) (l : LengthTables) �
     → LengthsOf m t l
 lengths-are m c t l held rm q =
     let p = parameters ranges m in record {
-      rm-are = worked-from-two failed (m .n) (l .rm) (rm-of ranges) (p .rep-ij) (p .att-ij) (c .«rep_ij») (c .«att_ij») (held .rep-are) (held .att-are) rm;
-      q-are = worked-from-three failed (m .n) (l .q) (diameter t) (p .eps-k-ij) (p .rep-ij) (p .att-ij) (c .«eps_k_ij») (c .«rep_ij») (c .«att_ij») (held .epsilon-are) (held .rep-are) (held .att-are) q;
+      rm-are = worked-from-two missing (m .n) (l .rm) (rm-of ranges) (p .rep-ij) (p .att-ij) (c .«rep_ij») (c .«att_ij») (held .rep-are) (held .att-are) rm;
+      q-are = worked-from-three missing (m .n) (l .q) (diameter t) (p .eps-k-ij) (p .rep-ij) (p .att-ij) (c .«eps_k_ij») (c .«rep_ij») (c .«att_ij») (held .epsilon-are) (held .rep-are) (held .att-are) q;
     }
 
 module _ {m : Mixture} {t : Range} {l : LengthTables} (h : LengthsOf m t l) where
   pub rm-symmetric : Symmetric (m .n) (l .rm)
-  rm-symmetric = let p = parameters ranges m in symmetric-from-two failed (m .n) (l .rm) (rm-of ranges) (p .rep-ij) (p .att-ij) (flip _ _) (flip _ _) (h .rm-are)
+  rm-symmetric = let p = parameters ranges m in symmetric-from-two missing (m .n) (l .rm) (rm-of ranges) (p .rep-ij) (p .att-ij) (flip _ _) (flip _ _) (h .rm-are)
 
   pub q-symmetric : Symmetric (m .n) (l .q)
-  q-symmetric = let p = parameters ranges m in symmetric-from-three failed (m .n) (l .q) (diameter t) (p .eps-k-ij) (p .rep-ij) (p .att-ij) (flip _ _) (flip _ _) (flip _ _) (h .q-are)
+  q-symmetric = let p = parameters ranges m in symmetric-from-three missing (m .n) (l .q) (diameter t) (p .eps-k-ij) (p .rep-ij) (p .att-ij) (flip _ _) (flip _ _) (flip _ _) (h .q-are)

@@ -6,10 +6,10 @@ use Rattle.uvtheory.specs.Rows.{parameters}
 use Rattle.uvtheory.specs.Wca.HardSphere.{rm-of, diameter-wca, dimensionless-length-scale, dimensionless-diameter-q-wca}
 use Rattle.uvtheory_range_wca.specs.declared.hard_sphere.ComponentLengths.{ComponentLengths}
 use Rattle.uvtheory_range_wca.specs.declared.hard_sphere.LengthTables.{LengthTables}
-use Rattle.uvtheory_range.specs.Rows.{points, Row, Matrix}
+use Rattle.uvtheory_range.specs.Rows.{constants, Row, Matrix}
 
 pub record ComponentLengthsOf (m : Mixture) (t : Range) (r : ComponentLengths) : Type 0 where
-  pub rm-are : Row (m .n) (r .rm) (λ i. rm-of ranges (points (m .rep) i) (points (m .att) i))
+  pub rm-are : Row (m .n) (r .rm) (λ i. rm-of ranges (constants (m .rep) i) (constants (m .att) i))
   pub d-are : Row (m .n) (r .d) (diameter-wca ranges (parameters ranges m) t)
   pub length-are : Row (m .n) (r .length) (dimensionless-length-scale ranges (parameters ranges m) t)
 

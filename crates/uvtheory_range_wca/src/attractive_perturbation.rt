@@ -8,14 +8,14 @@ use range_elementary::exponential::powf;
 use range_elementary::exponential::tanh;
 use uvtheory::consts::PI;
 use uvtheory::parameters::Mixture;
-use uvtheory::parameters::State;
 use uvtheory_range::beta_eff::coefficient_2;
 use uvtheory_range::one_fluid::OneFluid;
 use uvtheory_range::one_fluid::mean_cube;
 use uvtheory_range::one_fluid::one_fluid_properties;
-use uvtheory_range::one_fluid::points_of;
 use uvtheory_range::one_fluid::virial_sum;
 use uvtheory_range::parameters::Combined;
+use uvtheory_range::parameters::State;
+use uvtheory_range::parameters::constants;
 use uvtheory_range::parameters::mean_field_of;
 use uvtheory_range::parameters::mie_prefactor;
 use uvtheory_wca::attractive_perturbation::C_WCA;
@@ -27,10 +27,10 @@ ghost use Rattle.range.specs.Rules.{ranges};
 ghost use Rattle.uvtheory.specs.Literals as N;
 ghost use Rattle.uvtheory.specs.Parameters.{mie-prefactor};
 ghost use Rattle.uvtheory.specs.Rows as Doubles;
-ghost use Rattle.uvtheory.specs.Rows.{parameters, state};
+ghost use Rattle.uvtheory.specs.Rows.{parameters};
 ghost use Rattle.uvtheory.specs.Wca.HardSphere.{diameter-wca};
 ghost use Rattle.uvtheory.specs.Wca.AttractivePerturbation as F;
-ghost use Rattle.uvtheory_range.specs.Rows.{points, matrix, fluid, Row, Matrix};
+ghost use Rattle.uvtheory_range.specs.Rows.{row, matrix, fluid, Row, Matrix, state};
 ghost use Rattle.uvtheory_range.specs.Held.{CombinedOf, Symmetric};
 ghost use Rattle.uvtheory_range_wca.specs.Lengths.{LengthsOf};
 
@@ -44,13 +44,13 @@ pub fn delta_b12u(
     ensures { λ r. ⌜ r ≡ F.delta-b12u ranges «t_x» «mean_field_constant_x» «weighted_sigma3_ij» «q_x» «rm_x» ⌝ }
 {
     let cubes = rm_x.powi(3).sub(q_x.powi(3));
-    let part = cubes.mul(Range::ONE).div(Range::point(3.0));
+    let part = cubes.mul(Range::ONE).div(Range::constant(3.0));
     mean_field_constant_x
         .neg()
         .sub(part)
         .div(t_x)
-        .mul(Range::point(2.0))
-        .mul(Range::point(PI))
+        .mul(Range::constant(2.0))
+        .mul(Range::constant(PI))
         .mul(weighted_sigma3_ij)
 }
 
@@ -60,13 +60,13 @@ fn coefficient(c: [f64; 6], rep_inv: Range, tau_x: Range) -> Range
 {
     let rep_inv2 = rep_inv.powi(2);
     let first = rep_inv2
-        .mul(Range::point(c[2]))
-        .add(Range::point(c[0]))
-        .add(rep_inv.mul(Range::point(c[1])));
+        .mul(Range::constant(c[2]))
+        .add(Range::constant(c[0]))
+        .add(rep_inv.mul(Range::constant(c[1])));
     let second = rep_inv2
-        .mul(Range::point(c[5]))
-        .add(rep_inv.mul(Range::point(c[4])))
-        .add(Range::point(c[3]));
+        .mul(Range::constant(c[5]))
+        .add(rep_inv.mul(Range::constant(c[4])))
+        .add(Range::constant(c[3]));
     first.add(second.mul(tau_x))
 }
 
@@ -116,7 +116,7 @@ pub fn correlation_integral_wca(
     let quotient = correlation_quotient(c, rho_x, one.div(rep_x), d_x.neg().add(rm_x));
     cubes
         .mul(one)
-        .div(Range::point(3.0))
+        .div(Range::constant(3.0))
         .sub(mean_field_constant_x)
         .add(quotient)
 }
@@ -126,8 +126,10 @@ fn u_polynomial(c: [f64; 3], rep_inv: Range, reduced_density: Range) -> Range
     ensures { λ r. ⌜ r ≡ ranges .add (ranges .mul «reduced_density» (ranges .constant (Doubles.row c 0)))
         (ranges .mul (ranges .powi «reduced_density» 2) (ranges .add (ranges .mul «rep_inv» (ranges .constant (Doubles.row c 2))) (ranges .constant (Doubles.row c 1)))) ⌝ }
 {
-    let first = reduced_density.mul(Range::point(c[0]));
-    let second = rep_inv.mul(Range::point(c[2])).add(Range::point(c[1]));
+    let first = reduced_density.mul(Range::constant(c[0]));
+    let second = rep_inv
+        .mul(Range::constant(c[2]))
+        .add(Range::constant(c[1]));
     first.add(reduced_density.powi(2).mul(second))
 }
 
@@ -144,8 +146,8 @@ fn beta_eff_by(beta: Range, c0: Range, c1: Range, c2: Range, c3: Range) -> Range
         (ranges .mul (ranges .powf beta (ranges .constant N.zero)) c3)) (ranges .constant N.one)))) c0) (ranges .constant N.one)) ⌝ }
 {
     let one = Range::ONE;
-    let a = powf(beta, Range::point(1.05968091375869)).mul(c1);
-    let b = powf(beta, Range::point(3.41106168592999)).mul(c2);
+    let a = powf(beta, Range::constant(1.05968091375869)).mul(c1);
+    let b = powf(beta, Range::constant(3.41106168592999)).mul(c2);
     let c = powf(beta, Range::ZERO).mul(c3);
     let under = a.add(b).add(c).add(one);
     beta.mul(one.div(under).neg().mul(c0).add(one))
@@ -165,8 +167,8 @@ fn y_eff(beta: Range, rep: Range, rs: Range, a_rs: Range, alpha: Range) -> Range
     ensures { λ r. ⌜ r ≡ F.y-eff-of ranges beta rep rs «a_rs» alpha ⌝ }
 {
     let one = Range::ONE;
-    let shell = Range::point(5.0).powi(3).sub(rs.powi(3));
-    let c0 = one.sub(Range::point(3.0).mul(a_rs.sub(alpha)).div(shell));
+    let shell = Range::constant(5.0).powi(3).sub(rs.powi(3));
+    let c0 = one.sub(Range::constant(3.0).mul(a_rs.sub(alpha)).div(shell));
     exp(beta_eff(beta, rep, c0)).sub(one)
 }
 
@@ -181,8 +183,8 @@ pub fn delta_b2(
 ) -> Range
     ensures { λ r. ⌜ r ≡ F.delta-b2-of ranges «reduced_temperature» rep att q c rm ⌝ }
 {
-    let rc = Range::point(5.0);
-    let three = Range::point(3.0);
+    let rc = Range::constant(5.0);
+    let three = Range::constant(3.0);
     let alpha = mean_field_of(c, rep, att, rc);
     let beta = Range::ONE.div(reduced_temperature);
     let y = exp(beta).sub(Range::ONE);
@@ -191,7 +193,7 @@ pub fn delta_b2(
     let a = yeff.mul(rc.powi(3).sub(rm3)).div(three);
     let b = y.mul(q.powi(3).neg().add(rm3)).div(three);
     let s = a.add(b).add(beta.mul(alpha));
-    s.neg().mul(Range::point(2.0)).mul(Range::point(PI))
+    s.neg().mul(Range::constant(2.0)).mul(Range::constant(PI))
 }
 
 // delta_a1u of the properties of the one fluid, by its prefactor c.
@@ -211,8 +213,8 @@ pub fn delta_a1u(
     density
         .div(t_x)
         .mul(i_wca)
-        .mul(Range::point(2.0))
-        .mul(Range::point(PI))
+        .mul(Range::constant(2.0))
+        .mul(Range::constant(PI))
         .mul(o.weighted_sigma3_ij)
 }
 
@@ -298,19 +300,19 @@ pub fn helmholtz_energy_density(
     d: [Range; 8],
     density: Range,
 ) -> Range
-    requires { ⌜ (m .n ≤ 8) × CombinedOf m c × LengthsOf m (ranges .constant (s .temperature)) l × Row (m .n) d (diameter-wca ranges (parameters ranges m) (ranges .constant (s .temperature))) ⌝ }
-    requires { ⌜ density ≡ ranges .sum (m .n) (points (s .«partial_density»)) ⌝ }
-    ensures { λ r. ⌜ r ≡ F.helmholtz-energy-density ranges (parameters ranges m) (state ranges s) ⌝ }
+    requires { ⌜ (m .n ≤ 8) × CombinedOf m c × LengthsOf m (s .temperature) l × Row (m .n) d (diameter-wca ranges (parameters ranges m) (s .temperature)) ⌝ }
+    requires { ⌜ density ≡ ranges .sum (m .n) (row (s .«partial_density»)) ⌝ }
+    ensures { λ r. ⌜ r ≡ F.helmholtz-energy-density ranges (parameters ranges m) (state s) ⌝ }
 {
     let n = m.n;
-    let t = Range::point(s.temperature);
+    let t = s.temperature;
     let x = s.molefracs;
     let sent = m.sigma;
     let sigma_ij = c.sigma_ij;
-    let sigma = points_of(n, &sent);
-    let o = one_fluid_properties(n, c, sigma, &x, d);
+    let sigma = constants(sent);
+    let o = one_fluid_properties(n, c, sigma, x, d);
     let b2 = delta_b2_ij(n, c, t, l);
-    let b2bar = virial_sum(n, &x, sigma_ij, 3, b2);
-    let rho = density.mul(mean_cube(n, &x, sigma));
+    let b2bar = virial_sum(n, x, sigma_ij, 3, b2);
+    let rho = density.mul(mean_cube(n, x, sigma));
     energy(o, t, density, rho, b2bar)
 }

@@ -27,9 +27,9 @@ pub fn diameter_of(t: Range, rep: Range, rm: Range, sigma: Range) -> Range
     ensures { λ r. ⌜ r ≡ F.diameter-of ranges t rep rm sigma ⌝ }
 {
     let one = Range::ONE;
-    let two = Range::point(2.0);
-    let exponent = rep.neg().div(Range::point(12.0).sub(two.mul(rep)));
-    let c = powf(rep.div(Range::point(6.0)), exponent).sub(one);
+    let two = Range::constant(2.0);
+    let exponent = rep.neg().div(Range::constant(12.0).sub(two.mul(rep)));
+    let c = powf(rep.div(Range::constant(6.0)), exponent).sub(one);
     let under = powf(t.sqrt().mul(c).add(one), two.div(rep));
     one.div(under).mul(rm).mul(sigma)
 }
@@ -38,20 +38,20 @@ pub fn diameter_of(t: Range, rep: Range, rm: Range, sigma: Range) -> Range
 pub fn coefficient_q(c: [f64; 4], nu: Range) -> Range
     ensures { λ r. ⌜ r ≡ F.coefficient-q ranges (Doubles.row c) nu ⌝ }
 {
-    let s = nu.sub(Range::point(7.0));
-    let low = s.mul(Range::point(c[1]))
-        .add(s.powi(2).mul(Range::point(c[2])));
-    low.add(s.powi(3).mul(Range::point(c[3])))
-        .add(Range::point(c[0]))
+    let s = nu.sub(Range::constant(7.0));
+    let low = s.mul(Range::constant(c[1]))
+        .add(s.powi(2).mul(Range::constant(c[2])));
+    low.add(s.powi(3).mul(Range::constant(c[3])))
+        .add(Range::constant(c[0]))
 }
 
 // The coefficient of the first row of WCA_CONSTANTS_Q, which has two terms only.
 fn first_coefficient_q(c: [f64; 4], nu: Range) -> Range
     ensures { λ r. ⌜ r ≡ ranges .add (ranges .mul (ranges .sub nu (ranges .constant N.seven)) (ranges .constant (Doubles.row c 1))) (ranges .constant (Doubles.row c 0)) ⌝ }
 {
-    nu.sub(Range::point(7.0))
-        .mul(Range::point(c[1]))
-        .add(Range::point(c[0]))
+    nu.sub(Range::constant(7.0))
+        .mul(Range::constant(c[1]))
+        .add(Range::constant(c[0]))
 }
 
 // The polynomial in powers of t_x, by its coefficients.
@@ -62,10 +62,10 @@ fn polynomial_by(t_x: Range, nu: Range, n: Range, c0: Range, c1: Range, c2: Rang
         (ranges .sqrt (ranges .div (ranges .mul (ranges .mul nu (ranges .constant N.two)) (ranges .constant N.PI)) n)))) (ranges .constant N.one) ⌝ }
 {
     let one = Range::ONE;
-    let two = Range::point(2.0);
+    let two = Range::constant(2.0);
     let a = powf(t_x, two).mul(c2);
-    let b = powf(t_x, Range::point(3.0).div(two)).mul(c1);
-    let root = nu.mul(two).mul(Range::point(PI)).div(n).sqrt();
+    let b = powf(t_x, Range::constant(3.0).div(two)).mul(c1);
+    let root = nu.mul(two).mul(Range::constant(PI)).div(n).sqrt();
     let d = powf(t_x, one.div(two)).mul(root);
     a.add(b).add(t_x.mul(c0)).add(d).add(one)
 }
@@ -84,7 +84,7 @@ fn polynomial_q(t_x: Range, nu: Range, n: Range) -> Range
 pub fn q_of(t_x: Range, nu: Range, n: Range, rs: Range) -> Range
     ensures { λ r. ⌜ r ≡ F.q-of ranges «t_x» nu n rs ⌝ }
 {
-    let exponent = Range::ONE.div(nu.mul(Range::point(2.0))).neg();
+    let exponent = Range::ONE.div(nu.mul(Range::constant(2.0))).neg();
     powf(polynomial_q(t_x, nu, n), exponent).mul(rs)
 }
 
@@ -113,10 +113,10 @@ fn component_length(
         × (r .d ≡ F.diameter-of ranges (ranges .div temperature (ranges .constant «epsilon_k»)) (ranges .constant rep) (F.rm-of ranges (ranges .constant rep) (ranges .constant att)) (ranges .constant sigma))
         × (r .length ≡ ranges .add (ranges .neg (r .d)) (ranges .mul (r .rm) (ranges .constant sigma))) ⌝ }
 {
-    let rep = Range::point(rep);
-    let sigma = Range::point(sigma);
-    let t = temperature.div(Range::point(epsilon_k));
-    let rm = rm_of(rep, Range::point(att));
+    let rep = Range::constant(rep);
+    let sigma = Range::constant(sigma);
+    let t = temperature.div(Range::constant(epsilon_k));
+    let rm = rm_of(rep, Range::constant(att));
     let d = diameter_of(t, rep, rm, sigma);
     ComponentLength {
         rm,
@@ -159,7 +159,7 @@ pub fn component_lengths(m: Mixture, temperature: Range) -> ComponentLengths
 pub fn tau(li: Range, lj: Range, sigma_ij: Range) -> Range
     ensures { λ r. ⌜ r ≡ F.tau ranges li lj «sigma_ij» ⌝ }
 {
-    li.add(lj).div(sigma_ij).mul(Range::point(0.5))
+    li.add(lj).div(sigma_ij).mul(Range::constant(0.5))
 }
 
 // The place of the minimum and q of a pair, and of all pairs.

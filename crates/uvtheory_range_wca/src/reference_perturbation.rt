@@ -4,11 +4,11 @@ use crate::hard_sphere::LengthTables;
 use crate::hard_sphere::tau;
 use range::basic::Range;
 use uvtheory::parameters::Mixture;
-use uvtheory::parameters::State;
 use uvtheory_range::packing_fraction::packing_fraction;
 use uvtheory_range::packing_fraction::packing_fraction_a;
 use uvtheory_range::packing_fraction::packing_fraction_b;
 use uvtheory_range::parameters::Combined;
+use uvtheory_range::parameters::State;
 use uvtheory_range::reference_energy::energy;
 ghost use mathlib.Core.Path.{_≡_};
 ghost use Prim.Native.Nat.{_≤_, _<_};
@@ -16,9 +16,9 @@ ghost use Rattle.arithmetic.specs.Sums.{pairs};
 ghost use Rattle.range.specs.Rules.{ranges};
 ghost use Rattle.uvtheory.specs.Literals as N;
 ghost use Rattle.uvtheory.specs.Tables.{table};
-ghost use Rattle.uvtheory.specs.Rows.{parameters, state};
+ghost use Rattle.uvtheory.specs.Rows.{parameters};
 ghost use Rattle.uvtheory.specs.Wca.ReferencePerturbation as F;
-ghost use Rattle.uvtheory_range.specs.Rows.{points, row, matrix};
+ghost use Rattle.uvtheory_range.specs.Rows.{row, matrix, state};
 ghost use Rattle.uvtheory_range.specs.Held.{CombinedOf};
 ghost use Rattle.uvtheory_range_wca.specs.Lengths.{ComponentLengthsOf, LengthsOf};
 
@@ -29,7 +29,7 @@ fn contact_value(eta: Range) -> Range
     let one = Range::ONE;
     let minus = eta.neg();
     minus
-        .mul(Range::point(0.5))
+        .mul(Range::constant(0.5))
         .add(one)
         .div(minus.add(one).powi(3))
 }
@@ -73,7 +73,7 @@ fn term_of(
 ) -> Range
     ensures { λ r. ⌜ r ≡ F.term-of ranges (table ta) (table tb) (i .x) (j .x) (i .rm) (j .rm) (i .d) (j .d) (i .length) (j .length) q «sigma_ij» «rep_ij» eta ⌝ }
 {
-    let half = Range::point(0.5);
+    let half = Range::constant(0.5);
     let t = tau(i.length, j.length, sigma_ij);
     let eta_a = packing_fraction_a(ta, eta, t, rep_ij);
     let eta_b = packing_fraction_b(tb, eta, t);
@@ -93,16 +93,16 @@ fn term_of(
 
 fn component_of(
     i: usize,
-    x: &[f64; 8],
+    x: [Range; 8],
     rm: [Range; 8],
     d: [Range; 8],
     length: [Range; 8],
 ) -> Component
     requires { ⌜ i < 8 ⌝ }
-    ensures { λ r. ⌜ r ≡ record { x = points (now (x .entry)) i; rm = row rm i; d = row d i; length = row length i } ⌝ }
+    ensures { λ r. ⌜ r ≡ record { x = row x i; rm = row rm i; d = row d i; length = row length i } ⌝ }
 {
     Component {
-        x: Range::point(x[i]),
+        x: x[i],
         rm: rm[i],
         d: d[i],
         length: length[i],
@@ -114,7 +114,7 @@ pub fn pair_sum(
     ta: [[f64; 4]; 4],
     tb: [[f64; 2]; 3],
     n: usize,
-    x: &[f64; 8],
+    x: [Range; 8],
     rm: [Range; 8],
     d: [Range; 8],
     length: [Range; 8],
@@ -124,7 +124,7 @@ pub fn pair_sum(
     eta: Range,
 ) -> Range
     requires { ⌜ n ≤ 8 ⌝ }
-    ensures { λ r. ⌜ r ≡ pairs ranges n (F.term-ij ranges (table ta) (table tb) (points (now (x .entry))) (row rm) (row d) (row length)
+    ensures { λ r. ⌜ r ≡ pairs ranges n (F.term-ij ranges (table ta) (table tb) (row x) (row rm) (row d) (row length)
         (matrix n q) (matrix n «sigma_ij») (matrix n «rep_ij») eta) ⌝ }
 {
     let mut sum = Range::ZERO;
@@ -149,9 +149,9 @@ pub fn helmholtz_energy_density(
     l: LengthTables,
     density: Range,
 ) -> Range
-    requires { ⌜ (m .n ≤ 8) × CombinedOf m c × ComponentLengthsOf m (ranges .constant (s .temperature)) r × LengthsOf m (ranges .constant (s .temperature)) l ⌝ }
-    requires { ⌜ density ≡ ranges .sum (m .n) (points (s .«partial_density»)) ⌝ }
-    ensures { λ v. ⌜ v ≡ F.helmholtz-energy-density ranges (table ta) (table tb) (parameters ranges m) (state ranges s) ⌝ }
+    requires { ⌜ (m .n ≤ 8) × CombinedOf m c × ComponentLengthsOf m (s .temperature) r × LengthsOf m (s .temperature) l ⌝ }
+    requires { ⌜ density ≡ ranges .sum (m .n) (row (s .«partial_density»)) ⌝ }
+    ensures { λ v. ⌜ v ≡ F.helmholtz-energy-density ranges (table ta) (table tb) (parameters ranges m) (state s) ⌝ }
 {
     let n = m.n;
     let x = s.molefracs;
@@ -162,7 +162,7 @@ pub fn helmholtz_energy_density(
     let q = l.q;
     let sigma_ij = c.sigma_ij;
     let rep_ij = c.rep_ij;
-    let eta = packing_fraction(n, &partial_density, d);
-    let a = pair_sum(ta, tb, n, &x, rm, d, length, q, sigma_ij, rep_ij, eta);
+    let eta = packing_fraction(n, partial_density, d);
+    let a = pair_sum(ta, tb, n, x, rm, d, length, q, sigma_ij, rep_ij, eta);
     energy(a, density)
 }

@@ -1,7 +1,6 @@
-use mathlib.Core.Path.{_≡_, _∙_}
+use mathlib.Core.Path.{_≡_, refl, _∙_}
 use lib.Ieee.{Float, nan}
-use Rattle.arithmetic.specs.Root as Root
-use Rattle.arithmetic.specs.Doubles.{plain, guarded}
+use Rattle.arithmetic.specs.Doubles.{guarded}
 use mathlib.Core.List.{List}
 use Rattle.uvtheory.specs.declared.parameters.Mixture.{Mixture}
 use Rattle.uvtheory.specs.declared.parameters.State.{State}
@@ -14,7 +13,7 @@ use Rattle.uvtheory_bh.proofs.residual_helmholtz_energy_contributions.T
 
 diameters : (m : Mixture) (s : State) (ds : List Float) → Row (m .n) ds (diameter-bh guarded (parameters guarded m) (s .temperature)) →
     H.helmholtz-energy-density guarded (m .n) (row ds) (state guarded s) ≡ H.helmholtz-energy-density guarded (m .n) (diameter-bh guarded (parameters guarded m) (s .temperature)) (state guarded s)
-diameters m s ds h = hard-sphere-of plain Root.sqrt nan (m .n) (state guarded s) ds _ h
+diameters m s ds h = hard-sphere-of guarded (λ n f. refl) nan (m .n) (state guarded s) ds _ h
 
 returns : tie.Need-returns
 returns c =

@@ -1,7 +1,6 @@
-use mathlib.Core.Path.{_∙_}
+use mathlib.Core.Path.{refl, _∙_}
 use lib.Ieee.{nan}
-use Rattle.arithmetic.specs.Root as Root
-use Rattle.arithmetic.specs.Doubles.{plain, guarded}
+use Rattle.arithmetic.specs.Doubles.{guarded}
 use Rattle.uvtheory.specs.Rows.{state}
 use Rattle.uvtheory.proofs.Combined.{rep-symmetric, att-symmetric, epsilon-symmetric}
 use Rattle.uvtheory_wca.proofs.Lengths.{lengths-are}
@@ -14,7 +13,7 @@ returns c =
     let start = c .before .before .before .before .before .before .before .before .before .before .before .before in
     let r = c .before .before .before .before .before .before .before .before .before .component-lengths in
     record {
-      hard-sphere-is = c .before .before .before .helmholtz-energy-density .ensures ∙ hard-sphere-of plain Root.sqrt nan (start .args .m .n) (state guarded (start .args .s)) (r .result .d) _ (r .ensures .d-are);
+      hard-sphere-is = c .before .before .before .helmholtz-energy-density .ensures ∙ hard-sphere-of guarded (λ n f. refl) nan (start .args .m .n) (state guarded (start .args .s)) (r .result .d) _ (r .ensures .d-are);
       reference-is = c .before .before .helmholtz-energy-density2 .ensures;
       attractive-is = c .helmholtz-energy-density3 .ensures;
     }

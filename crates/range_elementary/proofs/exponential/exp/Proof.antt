@@ -8,7 +8,7 @@ use Rattle.elementary.proofs.Place.{constants}
 use Rattle.range.specs.Rules.{failed, zero}
 use Rattle.range.proofs.Corners.{lower-finite}
 use Rattle.range.proofs.Testing.{has-ends, test-else}
-use Rattle.range.proofs.Points.{zero-point}
+use Rattle.range.proofs.Constants.{zero-constant}
 use Rattle.range_elementary.proofs.exponential.exp.Statement.{statement}
 use Rattle.range_elementary.proofs.exponential.exp.Tie as tie
 
@@ -25,7 +25,7 @@ unfolding R.exp
 returns c =
     let b = c .before .before in
     let v = b .before .before .args .v in
-    rw (c .if-below .ensures, c .before .if-above .ensures, b .before .failed .ensures, zero-point)
+    rw (c .if-below .ensures, c .before .if-above .ensures, b .before .failed .ensures, zero-constant)
     (test-else (below K.minusSevenHundred) v zero _ _
     (λ k p. test-else (above K.sevenHundred) v failed _ _
     (λ k' q. b .exp-between .ensures k (sym (below-is (v .lower) K.minusSevenHundred (lower-finite v (has-ends v k)) (constants .3)) ∙ p) (sym (above-is (v .lower) K.sevenHundred (lower-finite v (has-ends v k)) (constants .2)) ∙ q))))

@@ -29,7 +29,7 @@ use Rattle.range_elementary.proofs.exponential.exp_between.Tie as tie
 
 -- the range of v × E + 0.5
 is-places : (c : tie.After-add) → c .add .result ≡ places (c .before .before .before .before .args .v)
-is-places c = rw (c .add .ensures, c .before .point2 .ensures, c .before .before .mul .ensures, c .before .before .before .point .ensures)
+is-places c = rw (c .add .ensures, c .before .constant2 .ensures, c .before .before .mul .ensures, c .before .before .before .constant .ensures)
 
 returns : tie.Need-returns
 returns c =

@@ -3,7 +3,7 @@ use mathlib.Core.Path.{sym, subst, _∙_}
 use lib.Dec.{T}
 use lib.Ieee.{ofBits, neg}
 use Rattle.arithmetic.specs.Recipes as R
-use Rattle.range.proofs.Points.{zero-point}
+use Rattle.range.proofs.Constants.{zero-constant}
 use Rattle.range_elementary.proofs.PowerOfOne.{tested-power}
 use Rattle.range_elementary.proofs.exponential.powf.Statement.{statement}
 use Rattle.range_elementary.proofs.exponential.powf.Tie as tie
@@ -29,7 +29,7 @@ if-above-requires-2 c κs = tt
 
 returns-2 : tie.Need-returns-2
 unfolding R.powf
-returns-2 c = rw (c .if-above2 .ensures, c .before .exp .ensures, c .before .before .mul .ensures, c .before .before .before .ln .ensures, c .before .before .before .before .if-below .ensures, c .before .before .before .before .before .failed2 .ensures, c .before .before .before .before .before .before .if-above .ensures, c .before .before .before .before .before .before .before .failed .ensures, zero-point)
+returns-2 c = rw (c .if-above2 .ensures, c .before .exp .ensures, c .before .before .mul .ensures, c .before .before .before .ln .ensures, c .before .before .before .before .if-below .ensures, c .before .before .before .before .before .failed2 .ensures, c .before .before .before .before .before .before .if-above .ensures, c .before .before .before .before .before .before .before .failed .ensures, zero-constant)
 
 pub powf-spec : {M : Type 1} → statement M
 powf-spec = tie.close (tie.spec (λ c κs. tt) (λ c κs. tt) returns (λ c κs. tt) if-above-requires (λ c κs. tt) if-below-requires (λ c κs. tt) (λ c κs. tt) (λ c κs. tt) if-above-requires-2 returns-2)

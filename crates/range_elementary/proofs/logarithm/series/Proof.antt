@@ -6,7 +6,7 @@ use Rattle.range_elementary.proofs.logarithm.series.Tie as tie
 
 returns : tie.Need-returns
 unfolding R.series
-returns c = rw (c .mul3 .ensures, c .before .horner .ensures, c .before .before .mul2 .ensures, c .before .before .before .before .mul .ensures, c .before .before .before .before .before .point .ensures)
+returns c = rw (c .mul3 .ensures, c .before .horner .ensures, c .before .before .mul2 .ensures, c .before .before .before .before .mul .ensures, c .before .before .before .before .before .constant .ensures)
 
 pub series-spec : {M : Type 1} → statement M
 series-spec = tie.close (tie.spec (λ c κs. tt) (λ c κs. tt) (λ c. search needs) (λ c κs. tt) (λ c κs. omega arith) (λ c κs. tt) returns)

@@ -23,7 +23,7 @@ loop-holds c =
     let l = c .before .before .before .args .c .now in
     let some = c .before .before .before .pre in
     let e : length l - 1 + 1 ≡ length l = omega (arith, some) in
-    (omega (arith, some), rw (e, drop-length l, c .point .ensures))
+    (omega (arith, some), rw (e, drop-length l, c .constant .ensures))
 
 loop-again : tie.Need-loop-again Inv-loop μ-loop
 loop-again c =

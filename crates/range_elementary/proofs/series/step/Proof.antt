@@ -5,7 +5,7 @@ returns : tie.Need-returns
 returns c = c .step-below .ensures
 
 returns-2 : tie.Need-returns-2
-returns-2 c = rw (c .add .ensures, c .before .point .ensures, c .before .before .mul .ensures)
+returns-2 c = rw (c .add .ensures, c .before .constant .ensures, c .before .before .mul .ensures)
 
 returns-3 : tie.Need-returns-3
 returns-3 c = c .step-of .ensures

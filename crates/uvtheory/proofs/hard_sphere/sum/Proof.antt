@@ -3,8 +3,7 @@ use mathlib.Core.Path.{_≡_, refl}
 use native.Mathlib.Omega.{arith}
 use borrow.Author.Needs.{needs}
 use Rattle.arithmetic.specs.Arithmetic.{sumBy}
-use Rattle.arithmetic.specs.Root as Root
-use Rattle.arithmetic.specs.Doubles.{plain, guarded}
+use Rattle.arithmetic.specs.Doubles.{guarded}
 use Rattle.uvtheory.specs.Rows.{row}
 use Rattle.uvtheory.proofs.Loops.{sum-step}
 use Rattle.uvtheory.proofs.hard_sphere.sum.Statement.{statement}
@@ -23,7 +22,7 @@ loop-holds c = (omega arith, refl)
 loop-again : tie.Need-loop-again Inv-loop μ-loop
 loop-again c = (
   omega arith,
-  rw (c .before .before .loop .inv .1, sum-step plain Root.sqrt),
+  rw (c .before .before .loop .inv .1, sum-step guarded (λ n f. refl)),
 )
 
 returns : tie.Need-returns Inv-loop μ-loop

@@ -3,8 +3,7 @@ use mathlib.Core.Path.{_≡_, refl}
 use native.Mathlib.Omega.{arith}
 use borrow.Author.Needs.{needs}
 use Rattle.arithmetic.specs.Arithmetic.{sumBy, powerBy}
-use Rattle.arithmetic.specs.Root as Root
-use Rattle.arithmetic.specs.Doubles.{plain, guarded}
+use Rattle.arithmetic.specs.Doubles.{guarded}
 use Rattle.uvtheory.specs.Rows.{row}
 use Rattle.uvtheory.specs.OneFluid as F
 use Rattle.uvtheory.proofs.Loops.{sum-step}
@@ -25,7 +24,7 @@ loop-again : tie.Need-loop-again Inv-loop μ-loop
 unfolding powerBy
 loop-again c = (
   omega arith,
-  rw (c .before .before .before .loop .inv .1, sum-step plain Root.sqrt),
+  rw (c .before .before .before .loop .inv .1, sum-step guarded (λ n f. refl)),
 )
 
 returns : tie.Need-returns Inv-loop μ-loop

@@ -2,8 +2,7 @@ use Prim.Native.Nat.{_≤_, _-_, _*_, _/_, _%_}
 use mathlib.Core.Path.{_≡_, refl}
 use native.Mathlib.Omega.{arith}
 use Rattle.arithmetic.specs.Arithmetic.{sumBy}
-use Rattle.arithmetic.specs.Root as Root
-use Rattle.arithmetic.specs.Doubles.{plain, guarded}
+use Rattle.arithmetic.specs.Doubles.{guarded}
 use Rattle.uvtheory.specs.Rows.{row, matrix}
 use Rattle.uvtheory.specs.OneFluid as F
 use Rattle.uvtheory.proofs.Loops.{sum-step, at-pair, Bounds, pair-within, square-fits}
@@ -25,7 +24,7 @@ unfolding sumBy
 loop-holds c = (omega arith, refl)
 
 loop-again : tie.Need-loop-again Inv-loop μ-loop
-loop-again c = (omega arith, rw (c .before .powi .ensures, c .before .before .before .before .before .before .loop .inv .1, sum-step plain Root.sqrt, at-pair))
+loop-again c = (omega arith, rw (c .before .powi .ensures, c .before .before .before .before .before .before .loop .inv .1, sum-step guarded (λ n f. refl), at-pair))
 
 returns : tie.Need-returns Inv-loop μ-loop
 unfolding F.weighted-pairs

@@ -3,8 +3,7 @@ use mathlib.Core.Path.{_≡_, refl}
 use native.Mathlib.Omega.{arith}
 use borrow.Author.Needs.{needs}
 use Rattle.arithmetic.specs.Arithmetic.{sumBy, powerBy}
-use Rattle.arithmetic.specs.Root as Root
-use Rattle.arithmetic.specs.Doubles.{plain, guarded}
+use Rattle.arithmetic.specs.Doubles.{guarded}
 use Rattle.uvtheory.specs.Rows.{row}
 use Rattle.uvtheory.specs.Literals as N
 use Rattle.uvtheory.specs.PackingFraction as F
@@ -26,7 +25,7 @@ loop-again : tie.Need-loop-again Inv-loop μ-loop
 unfolding powerBy
 loop-again c = (
   omega arith,
-  rw (c .before .before .before .loop .inv .1, sum-step plain Root.sqrt, c .before .before .before .before .div .ensures),
+  rw (c .before .before .before .loop .inv .1, sum-step guarded (λ n f. refl), c .before .before .before .before .div .ensures),
 )
 
 returns : tie.Need-returns Inv-loop μ-loop

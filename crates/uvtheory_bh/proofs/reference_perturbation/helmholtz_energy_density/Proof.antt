@@ -1,8 +1,7 @@
-use mathlib.Core.Path.{_∙_}
+use mathlib.Core.Path.{refl, _∙_}
 use Prim.Native.Nat.{_*_, _/_, _%_}
 use lib.Ieee.{nan}
-use Rattle.arithmetic.specs.Root as Root
-use Rattle.arithmetic.specs.Doubles.{plain, guarded}
+use Rattle.arithmetic.specs.Doubles.{guarded}
 use Rattle.uvtheory.specs.Rows.{row, matrix, parameters}
 use Rattle.uvtheory.specs.PackingFraction as P
 use Rattle.uvtheory.specs.Bh.HardSphere.{diameter-bh}
@@ -26,10 +25,10 @@ returns c =
     let ds = start .args .d .now in
     let h = start .pre .0 .2 in
     let eta = P.packing-fraction guarded n (row (s .«partial_density»)) d in
-    let pairs = sum-ext plain Root.sqrt (n * n) (λ k. F.term-ij guarded (row (s .molefracs)) (row ds) (row (m .sigma)) (matrix n (a .«sigma_ij»)) (matrix n (a .«rep_ij»)) eta (k / n) (k % n))
+    let pairs = sum-ext guarded (λ n f. refl) (n * n) (λ k. F.term-ij guarded (row (s .molefracs)) (row ds) (row (m .sigma)) (matrix n (a .«sigma_ij»)) (matrix n (a .«rep_ij»)) eta (k / n) (k % n))
     (λ k. F.term-ij guarded (row (s .molefracs)) d (row (m .sigma)) (p .sigma-ij) (p .rep-ij) eta (k / n) (k % n))
     (λ k l. rw (sigma-at m a held k l, rep-at m a held k l, h (k / n) (row-of n k l), h (k % n) (column-of n k l))) in
-    c .energy .ensures ∙ rw (c .before .pair-sum .ensures, c .before .before .before .before .before .before .packing-fraction .ensures, packing-fraction-of plain Root.sqrt nan n (row (s .«partial_density»)) ds d h, pairs, start .pre .1)
+    c .energy .ensures ∙ rw (c .before .pair-sum .ensures, c .before .before .before .before .before .before .packing-fraction .ensures, packing-fraction-of guarded (λ n f. refl) nan n (row (s .«partial_density»)) ds d h, pairs, start .pre .1)
 
 pub helmholtz-energy-density-spec : {M : Type 1} → statement M
 helmholtz-energy-density-spec = tie.close (tie.spec (λ c κs. c .before .before .before .before .before .before .pre .0 .0) (λ c κs. c .before .before .before .before .before .before .before .before .before .before .before .pre .0 .0) (λ c κs. tt) returns)

@@ -1,4 +1,4 @@
-use Rattle.range.proofs.Points.{one-point}
+use Rattle.range.proofs.Constants.{one-constant}
 use Rattle.uvtheory.specs.HardSphere as F
 use Rattle.uvtheory_range.proofs.hard_sphere.bmcsl.Statement.{statement}
 use Rattle.uvtheory_range.proofs.hard_sphere.bmcsl.Tie as tie
@@ -13,7 +13,7 @@ returns c =
     let c25 = c24 .before in
     rw (
       c .div3 .ensures,
-      c1 .point2 .ensures,
+      c1 .constant2 .ensures,
       c2 .add2 .ensures,
       c3 .add .ensures,
       c4 .mul11 .ensures,
@@ -27,7 +27,7 @@ returns c =
       c12 .powi2 .ensures,
       c13 .powi .ensures,
       c14 .mul7 .ensures,
-      c15 .point .ensures,
+      c15 .constant .ensures,
       c16 .mul6 .ensures,
       c17 .mul5 .ensures,
       c18 .neg .ensures,
@@ -38,7 +38,7 @@ returns c =
       c23 .mul2 .ensures,
       c24 .mul .ensures,
       c25 .div .ensures,
-      one-point,
+      one-constant,
     )
 
 pub bmcsl-spec : {M : Type 1} → statement M

@@ -1,4 +1,4 @@
-use Rattle.range.proofs.Points.{one-point}
+use Rattle.range.proofs.Constants.{one-constant}
 use Rattle.uvtheory.specs.OneFluid as F
 use Rattle.uvtheory_range.proofs.one_fluid.cube_root.Statement.{statement}
 use Rattle.uvtheory_range.proofs.one_fluid.cube_root.Tie as tie
@@ -7,7 +7,7 @@ returns : tie.Need-returns
 unfolding F.cube-root
 returns c =
     let c1 = c .before in let c2 = c1 .before in
-    rw (c .powf .ensures, c1 .div .ensures, c2 .point .ensures, one-point)
+    rw (c .powf .ensures, c1 .div .ensures, c2 .constant .ensures, one-constant)
 
 pub cube-root-spec : {M : Type 1} → statement M
 cube-root-spec = tie.close (tie.spec (λ c κs. tt) (λ c κs. tt) (λ c κs. tt) returns)

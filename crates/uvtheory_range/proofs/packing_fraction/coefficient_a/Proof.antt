@@ -15,12 +15,12 @@ returns c =
       c3 .mul3 .ensures,
       c4 .add2 .ensures,
       c5 .mul2 .ensures,
-      c6 .point4 .ensures,
-      c7 .point3 .ensures,
+      c6 .constant4 .ensures,
+      c7 .constant3 .ensures,
       c8 .add .ensures,
       c9 .mul .ensures,
-      c10 .point2 .ensures,
-      c11 .point .ensures,
+      c10 .constant2 .ensures,
+      c11 .constant .ensures,
     )
 
 pub coefficient-a-spec : {M : Type 1} → statement M

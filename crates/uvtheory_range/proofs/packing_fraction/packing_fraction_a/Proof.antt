@@ -1,5 +1,5 @@
 use borrow.Author.Needs.{needs}
-use Rattle.range.proofs.Points.{one-point}
+use Rattle.range.proofs.Constants.{one-constant}
 use Rattle.uvtheory.specs.PackingFraction as F
 use Rattle.uvtheory_range.proofs.packing_fraction.packing_fraction_a.Statement.{statement}
 use Rattle.uvtheory_range.proofs.packing_fraction.packing_fraction_a.Tie as tie
@@ -28,7 +28,7 @@ returns c =
       c15 .coefficient-a2 .ensures,
       c17 .coefficient-a .ensures,
       c19 .div .ensures,
-      one-point,
+      one-constant,
     )
 
 pub packing-fraction-a-spec : {M : Type 1} → statement M

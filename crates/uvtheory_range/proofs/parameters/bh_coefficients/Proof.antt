@@ -1,5 +1,5 @@
 use borrow.Author.Needs.{needs}
-use Rattle.range.proofs.Points.{one-point}
+use Rattle.range.proofs.Constants.{one-constant}
 use Rattle.uvtheory.specs.Parameters as F
 use Rattle.uvtheory_range.proofs.parameters.bh_coefficients.Statement.{statement}
 use Rattle.uvtheory_range.proofs.parameters.bh_coefficients.Tie as tie
@@ -20,14 +20,14 @@ returns c =
       c9 .mul2 .ensures,
       c10 .sub2 .ensures,
       c11 .mul .ensures,
-      c12 .point2 .ensures,
+      c12 .constant2 .ensures,
       c13 .sub .ensures,
       c14 .div .ensures,
       c15 .mean-field-of .ensures,
       c16 .mie-prefactor .ensures,
-      c17 .point .ensures,
+      c17 .constant .ensures,
       start .pre,
-      one-point,
+      one-constant,
     )
 
 pub bh-coefficients-spec : {M : Type 1} → statement M

@@ -1,5 +1,5 @@
 use borrow.Author.Needs.{needs}
-use Rattle.range.proofs.Points.{one-point}
+use Rattle.range.proofs.Constants.{one-constant}
 use Rattle.uvtheory_range.proofs.parameters.cd_bh_times.Statement.{statement}
 use Rattle.uvtheory_range.proofs.parameters.cd_bh_times.Tie as tie
 
@@ -11,13 +11,13 @@ returns c =
       c .add2 .ensures,
       c1 .mul4 .ensures,
       c2 .mul3 .ensures,
-      c3 .point3 .ensures,
+      c3 .constant3 .ensures,
       c4 .add .ensures,
       c5 .mul2 .ensures,
-      c6 .point2 .ensures,
+      c6 .constant2 .ensures,
       c7 .mul .ensures,
-      c8 .point .ensures,
-      one-point,
+      c8 .constant .ensures,
+      one-constant,
     )
 
 pub cd-bh-times-spec : {M : Type 1} → statement M

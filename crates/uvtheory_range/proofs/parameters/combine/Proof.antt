@@ -2,19 +2,20 @@
 use Prim.Native.Nat.{_≤_, _-_, _*_, _<_}
 use mathlib.Core.Path.{refl}
 use native.Mathlib.Omega.{arith}
-use Rattle.range.specs.Rules.{failed, ranges}
+use Rattle.range.specs.Rules.{ranges}
 use Rattle.uvtheory.specs.Rows.{parameters}
 use Rattle.uvtheory.proofs.Loops.{row-of, column-of, pair-within, square-le, Filled, one-more, mirror, Bounds, square-fits}
+use Rattle.uvtheory_range.specs.Rows.{missing}
 use Rattle.uvtheory_range.proofs.parameters.combine.Statement.{statement}
 use Rattle.uvtheory_range.proofs.parameters.combine.Tie as tie
 
 abbrev Inv-loop : tie.InvT-loop
 Inv-loop m n rep-ij₀ att-ij₀ sigma-ij₀ eps-k-ij₀ k₀ rep-ij att-ij sigma-ij eps-k-ij k =
     (k ≤ m .n * m .n)
-    × Filled failed (m .n) k rep-ij (parameters ranges m .rep-ij)
-    × Filled failed (m .n) k att-ij (parameters ranges m .att-ij)
-    × Filled failed (m .n) k sigma-ij (parameters ranges m .sigma-ij)
-    × Filled failed (m .n) k eps-k-ij (parameters ranges m .eps-k-ij)
+    × Filled missing (m .n) k rep-ij (parameters ranges m .rep-ij)
+    × Filled missing (m .n) k att-ij (parameters ranges m .att-ij)
+    × Filled missing (m .n) k sigma-ij (parameters ranges m .sigma-ij)
+    × Filled missing (m .n) k eps-k-ij (parameters ranges m .eps-k-ij)
 
 abbrev μ-loop : tie.MeasureT-loop
 μ-loop m n rep-ij₀ att-ij₀ sigma-ij₀ eps-k-ij₀ k₀ rep-ij att-ij sigma-ij eps-k-ij k = m .n * m .n - k
@@ -36,10 +37,10 @@ pair-at-requires c κs =
     let h : l .k < n * n = omega arith in (
       (row-of n (l .k) h, column-of n (l .k) h, start .pre),
       λ b. record {
-        rep-is = mirror failed (f .rep-ij) n (l .k) (l .rep-ij) h b (l .inv .1 .1);
-        att-is = mirror failed (f .att-ij) n (l .k) (l .att-ij) h b (l .inv .2 .1);
-        sigma-is = mirror failed (f .sigma-ij) n (l .k) (l .sigma-ij) h b (l .inv .3 .1);
-        epsilon-is = mirror failed (f .eps-k-ij) n (l .k) (l .eps-k-ij) h b (l .inv .4 .1);
+        rep-is = mirror missing (f .rep-ij) n (l .k) (l .rep-ij) h b (l .inv .1 .1);
+        att-is = mirror missing (f .att-ij) n (l .k) (l .att-ij) h b (l .inv .2 .1);
+        sigma-is = mirror missing (f .sigma-ij) n (l .k) (l .sigma-ij) h b (l .inv .3 .1);
+        epsilon-is = mirror missing (f .eps-k-ij) n (l .k) (l .eps-k-ij) h b (l .inv .4 .1);
       },
     )
 
@@ -54,10 +55,10 @@ loop-again c =
     let f = parameters ranges (start .args .m) in
     let p = pair .pair-at .ensures in (
       omega arith,
-      one-more failed n (l .k) (l .rep-ij) (f .rep-ij) _ h (l .inv .1) (p .rep-is),
-      one-more failed n (l .k) (l .att-ij) (f .att-ij) _ h (l .inv .2) (p .att-is),
-      one-more failed n (l .k) (l .sigma-ij) (f .sigma-ij) _ h (l .inv .3) (p .sigma-is),
-      one-more failed n (l .k) (l .eps-k-ij) (f .eps-k-ij) _ h (l .inv .4) (p .epsilon-is),
+      one-more missing n (l .k) (l .rep-ij) (f .rep-ij) _ h (l .inv .1) (p .rep-is),
+      one-more missing n (l .k) (l .att-ij) (f .att-ij) _ h (l .inv .2) (p .att-is),
+      one-more missing n (l .k) (l .sigma-ij) (f .sigma-ij) _ h (l .inv .3) (p .sigma-is),
+      one-more missing n (l .k) (l .eps-k-ij) (f .eps-k-ij) _ h (l .inv .4) (p .epsilon-is),
     )
 
 returns : tie.Need-returns Inv-loop μ-loop

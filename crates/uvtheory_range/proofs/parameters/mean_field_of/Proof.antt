@@ -20,7 +20,7 @@ returns c =
       c9 .powf .ensures,
       c10 .add .ensures,
       c11 .neg .ensures,
-      c12 .point .ensures,
+      c12 .constant .ensures,
     )
 
 pub mean-field-of-spec : {M : Type 1} → statement M

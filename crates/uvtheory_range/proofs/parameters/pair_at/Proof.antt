@@ -14,7 +14,7 @@ returns-3 c =
     let start = e .before .before .before in
     let i = start .args .i in
     let same : i ≡ start .args .j = omega (arith, e .before .if2 .left, e .before .before .if1 .left) in
-    pair-itself i (start .args .j) same (c .before .before .before .point .ensures) (c .before .before .point2 .ensures) (c .before .point3 .ensures) (c .point4 .ensures)
+    pair-itself i (start .args .j) same (c .before .before .before .constant .ensures) (c .before .before .constant2 .ensures) (c .before .constant3 .ensures) (c .constant4 .ensures)
 
 pub pair-at-spec : {M : Type 1} → statement M
 pair-at-spec = tie.close (tie.spec (λ c κs. search needs) (λ c. c .pair-of .ensures) returns-2 (λ c. search needs) (λ c. search needs) (λ c κs. tt) (λ c. search needs) (λ c. search needs) (λ c κs. tt) (λ c. search needs) (λ c. search needs) (λ c κs. tt) (λ c. search needs) (λ c. search needs) (λ c κs. tt) returns-3)

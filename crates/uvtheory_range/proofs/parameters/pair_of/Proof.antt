@@ -1,5 +1,5 @@
 use borrow.Author.Needs.{needs}
-use Rattle.range.proofs.Points.{one-point}
+use Rattle.range.proofs.Constants.{one-constant}
 use Rattle.uvtheory.proofs.Combined.{below}
 use Rattle.uvtheory_range.proofs.parameters.pair_of.Statement.{statement}
 use Rattle.uvtheory_range.proofs.parameters.pair_of.Tie as tie
@@ -14,8 +14,8 @@ returns c =
     let h = start .pre .0 in record {
       rep-is = rw (c9 .geometric-mean .ensures, below _ _ i j h);
       att-is = rw (c8 .geometric-mean2 .ensures, below _ _ i j h);
-      sigma-is = rw (c3 .mul .ensures, c4 .point .ensures, c7 .sum-of .ensures, below _ _ i j h);
-      epsilon-is = rw (c .mul2 .ensures, c1 .sub .ensures, c2 .point2 .ensures, c5 .place .ensures .0, c6 .geometric-mean3 .ensures, below _ _ i j h, one-point);
+      sigma-is = rw (c3 .mul .ensures, c4 .constant .ensures, c7 .sum-of .ensures, below _ _ i j h);
+      epsilon-is = rw (c .mul2 .ensures, c1 .sub .ensures, c2 .constant2 .ensures, c5 .place .ensures .0, c6 .geometric-mean3 .ensures, below _ _ i j h, one-constant);
     }
 
 pub pair-of-spec : {M : Type 1} → statement M

@@ -9,14 +9,14 @@ returns c =
     let c7 = c6 .before in let c8 = c7 .before in
     rw (
       c .mul3 .ensures,
-      c1 .point3 .ensures,
+      c1 .constant3 .ensures,
       c2 .div .ensures,
-      c3 .point2 .ensures,
+      c3 .constant2 .ensures,
       c4 .mul2 .ensures,
       c5 .mul .ensures,
       c6 .powi .ensures,
       c7 .neg .ensures,
-      c8 .point .ensures,
+      c8 .constant .ensures,
     )
 
 pub energy-spec : {M : Type 1} → statement M

@@ -1,5 +1,5 @@
 use borrow.Author.Needs.{needs}
-use Rattle.range.proofs.Points.{one-point}
+use Rattle.range.proofs.Constants.{one-constant}
 use Rattle.uvtheory.specs.Wca.AttractivePerturbationUvb3 as F
 use Rattle.uvtheory_range_b3.proofs.attractive_perturbation_uvb3.alpha.Statement.{statement}
 use Rattle.uvtheory_range_b3.proofs.attractive_perturbation_uvb3.alpha.Tie as tie
@@ -14,15 +14,15 @@ returns c =
       c1 .mul4 .ensures,
       c2 .add .ensures,
       c3 .mul3 .ensures,
-      c4 .point2 .ensures,
+      c4 .constant2 .ensures,
       c5 .div2 .ensures,
       c6 .powi .ensures,
       c7 .mul2 .ensures,
-      c8 .point .ensures,
+      c8 .constant .ensures,
       c9 .mul .ensures,
       c10 .div .ensures,
       c11 .neg .ensures,
-      one-point,
+      one-constant,
     )
 
 pub alpha-spec : {M : Type 1} → statement M

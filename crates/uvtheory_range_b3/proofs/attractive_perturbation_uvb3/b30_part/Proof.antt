@@ -1,4 +1,4 @@
-use Rattle.range.proofs.Points.{one-point}
+use Rattle.range.proofs.Constants.{one-constant}
 use Rattle.uvtheory_range_b3.proofs.attractive_perturbation_uvb3.b30_part.Statement.{statement}
 use Rattle.uvtheory_range_b3.proofs.attractive_perturbation_uvb3.b30_part.Tie as tie
 
@@ -10,7 +10,7 @@ returns c =
       c1 .add2 .ensures,
       c2 .add .ensures,
       c3 .neg .ensures,
-      one-point,
+      one-constant,
     )
 
 pub b30-part-spec : {M : Type 1} → statement M

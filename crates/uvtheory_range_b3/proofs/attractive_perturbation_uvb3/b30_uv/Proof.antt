@@ -1,5 +1,5 @@
 use borrow.Author.Needs.{needs}
-use Rattle.range.proofs.Points.{one-point}
+use Rattle.range.proofs.Constants.{one-constant}
 use Rattle.uvtheory.specs.Wca.AttractivePerturbationUvb3 as F
 use Rattle.uvtheory_range_b3.proofs.attractive_perturbation_uvb3.b30_uv.Statement.{statement}
 use Rattle.uvtheory_range_b3.proofs.attractive_perturbation_uvb3.b30_uv.Tie as tie
@@ -18,11 +18,11 @@ returns c =
       c3 .ten-volumes .ensures,
       c4 .mul2 .ensures,
       c5 .powi4 .ensures,
-      c6 .point3 .ensures,
+      c6 .constant3 .ensures,
       c7 .div2 .ensures,
-      c8 .point2 .ensures,
+      c8 .constant2 .ensures,
       c9 .mul .ensures,
-      c10 .point .ensures,
+      c10 .constant .ensures,
       c11 .b30-part2 .ensures,
       c12 .b30-part .ensures,
       c13 .powi3 .ensures,
@@ -33,7 +33,7 @@ returns c =
       c19 .div .ensures,
       c21 .add .ensures,
       c22 .neg .ensures,
-      one-point,
+      one-constant,
     )
 
 pub b30-uv-spec : {M : Type 1} → statement M

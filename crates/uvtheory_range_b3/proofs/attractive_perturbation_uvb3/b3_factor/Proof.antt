@@ -1,4 +1,4 @@
-use Rattle.range.proofs.Points.{one-point}
+use Rattle.range.proofs.Constants.{one-constant}
 use Rattle.uvtheory_range_b3.proofs.attractive_perturbation_uvb3.b3_factor.Statement.{statement}
 use Rattle.uvtheory_range_b3.proofs.attractive_perturbation_uvb3.b3_factor.Tie as tie
 
@@ -8,11 +8,11 @@ returns c =
     rw (
       c .add .ensures,
       c1 .mul .ensures,
-      c2 .point2 .ensures,
+      c2 .constant2 .ensures,
       c3 .div .ensures,
       c4 .sub .ensures,
-      c5 .point .ensures,
-      one-point,
+      c5 .constant .ensures,
+      one-constant,
     )
 
 pub b3-factor-spec : {M : Type 1} → statement M

@@ -1,5 +1,5 @@
 use borrow.Author.Needs.{needs}
-use Rattle.range.proofs.Points.{one-point}
+use Rattle.range.proofs.Constants.{one-constant}
 use Rattle.uvtheory.specs.Wca.AttractivePerturbationUvb3 as F
 use Rattle.uvtheory_range_b3.proofs.attractive_perturbation_uvb3.b3_term.Statement.{statement}
 use Rattle.uvtheory_range_b3.proofs.attractive_perturbation_uvb3.b3_term.Tie as tie
@@ -12,21 +12,21 @@ returns c =
     let c13 = c12 .before in let c14 = c13 .before in
     rw (
       c .add2 .ensures,
-      c1 .point5 .ensures,
+      c1 .constant5 .ensures,
       c2 .mul3 .ensures,
       c3 .mul2 .ensures,
-      c4 .point4 .ensures,
+      c4 .constant4 .ensures,
       c5 .div .ensures,
       c6 .powf .ensures,
       c7 .add .ensures,
-      c8 .point3 .ensures,
+      c8 .constant3 .ensures,
       c9 .b3-factor2 .ensures,
       c10 .mul .ensures,
-      c11 .point2 .ensures,
+      c11 .constant2 .ensures,
       c12 .b3-factor .ensures,
       c13 .sub .ensures,
-      c14 .point .ensures,
-      one-point,
+      c14 .constant .ensures,
+      one-constant,
     )
 
 pub b3-term-spec : {M : Type 1} → statement M

@@ -14,13 +14,13 @@ returns c =
       c2 .mul4 .ensures,
       c3 .mul3 .ensures,
       c4 .add2 .ensures,
-      c5 .point4 .ensures,
+      c5 .constant4 .ensures,
       c6 .mul2 .ensures,
-      c7 .point3 .ensures,
+      c7 .constant3 .ensures,
       c8 .add .ensures,
-      c9 .point2 .ensures,
+      c9 .constant2 .ensures,
       c10 .mul .ensures,
-      c11 .point .ensures,
+      c11 .constant .ensures,
     )
 
 pub c1-eta-a-spec : {M : Type 1} → statement M

@@ -10,15 +10,15 @@ returns c =
     let c7 = c6 .before in let c8 = c7 .before in let c9 = c8 .before in
     rw (
       c .add3 .ensures,
-      c1 .point4 .ensures,
+      c1 .constant4 .ensures,
       c2 .add2 .ensures,
       c3 .mul3 .ensures,
-      c4 .point3 .ensures,
+      c4 .constant3 .ensures,
       c5 .add .ensures,
       c6 .mul2 .ensures,
-      c7 .point2 .ensures,
+      c7 .constant2 .ensures,
       c8 .mul .ensures,
-      c9 .point .ensures,
+      c9 .constant .ensures,
     )
 
 pub coefficient-rsap-spec : {M : Type 1} → statement M

@@ -1,4 +1,4 @@
-use Rattle.range.proofs.Points.{one-point}
+use Rattle.range.proofs.Constants.{one-constant}
 use Rattle.uvtheory_range_b3.proofs.attractive_perturbation_uvb3.delta_b2_by.Statement.{statement}
 use Rattle.uvtheory_range_b3.proofs.attractive_perturbation_uvb3.delta_b2_by.Tie as tie
 
@@ -19,7 +19,7 @@ returns c =
       c9 .sub2 .ensures,
       c10 .exp .ensures,
       c11 .sub .ensures,
-      one-point,
+      one-constant,
     )
 
 pub delta-b2-by-spec : {M : Type 1} → statement M

@@ -4,10 +4,10 @@ use mathlib.Core.Path.{refl, _∙_}
 use mathlib.Core.List.{List}
 use native.Mathlib.Omega.{arith}
 use Rattle.range.specs.declared.basic.Range.{Range}
-use Rattle.range.specs.Rules.{failed, ranges}
+use Rattle.range.specs.Rules.{ranges}
 use Rattle.uvtheory.specs.Wca.AttractivePerturbationUvb3 as F
 use Rattle.uvtheory.proofs.Loops.{at-pair, pair-within, square-le, Filled, one-more, mirror, Bounds, square-fits}
-use Rattle.uvtheory_range.specs.Rows.{matrix}
+use Rattle.uvtheory_range.specs.Rows.{missing, matrix}
 use Rattle.uvtheory_range_b3.proofs.attractive_perturbation_uvb3.delta_b2_ij.Statement.{statement}
 use Rattle.uvtheory_range_b3.proofs.attractive_perturbation_uvb3.delta_b2_ij.Tie as tie
 
@@ -15,7 +15,7 @@ abbrev worked : ℕ → Range → List Range → List Range → List Range → L
 worked n t rep-ij eps-k-ij q rm i j = F.delta-b2-of ranges (ranges .div t (matrix n eps-k-ij i j)) (matrix n rep-ij i j) (matrix n q i j) (matrix n rm i j)
 
 abbrev Inv-loop : tie.InvT-loop
-Inv-loop n t rep-ij eps-k-ij q rm b2₀ k₀ b2 k = (k ≤ n * n) × Filled failed n k b2 (worked n t rep-ij eps-k-ij q rm)
+Inv-loop n t rep-ij eps-k-ij q rm b2₀ k₀ b2 k = (k ≤ n * n) × Filled missing n k b2 (worked n t rep-ij eps-k-ij q rm)
 
 abbrev μ-loop : tie.MeasureT-loop
 μ-loop n t rep-ij eps-k-ij q rm b2₀ k₀ b2 k = n * n - k
@@ -34,7 +34,7 @@ delta-b2-at-requires c κs b =
     let n = start .args .n in
     let h : l .k < n * n = omega arith in
     let a = start .args .c in
-    mirror failed (worked n (start .args .t) (a .«rep_ij») (a .«eps_k_ij») (start .args .l .q) (start .args .l .rm)) n (l .k) (l .b2) h b (l .inv .1 .1) ∙ rw (start .pre .1 (l .k) h b, start .pre .2 (l .k) h b, start .pre .3 (l .k) h b, start .pre .4 (l .k) h b)
+    mirror missing (worked n (start .args .t) (a .«rep_ij») (a .«eps_k_ij») (start .args .l .q) (start .args .l .rm)) n (l .k) (l .b2) h b (l .inv .1 .1) ∙ rw (start .pre .1 (l .k) h b, start .pre .2 (l .k) h b, start .pre .3 (l .k) h b, start .pre .4 (l .k) h b)
 
 loop-again : tie.Need-loop-again Inv-loop μ-loop
 loop-again c =
@@ -43,7 +43,7 @@ loop-again c =
     let n = start .args .n in
     let a = start .args .c in (
       omega arith,
-      one-more failed n (l .k) (l .b2) (worked n (start .args .t) (a .«rep_ij») (a .«eps_k_ij») (start .args .l .q) (start .args .l .rm)) _ (omega (arith, square-le n (start .pre .0))) (l .inv .1) (c .delta-b2-at .ensures ∙ rw (at-pair n (l .k))),
+      one-more missing n (l .k) (l .b2) (worked n (start .args .t) (a .«rep_ij») (a .«eps_k_ij») (start .args .l .q) (start .args .l .rm)) _ (omega (arith, square-le n (start .pre .0))) (l .inv .1) (c .delta-b2-at .ensures ∙ rw (at-pair n (l .k))),
     )
 
 returns : tie.Need-returns Inv-loop μ-loop

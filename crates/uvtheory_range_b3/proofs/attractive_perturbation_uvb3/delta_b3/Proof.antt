@@ -1,5 +1,5 @@
 use borrow.Author.Needs.{needs}
-use Rattle.range.proofs.Points.{one-point}
+use Rattle.range.proofs.Constants.{one-constant}
 use Rattle.uvtheory.specs.Wca.AttractivePerturbationUvb3 as F
 use Rattle.uvtheory_range_b3.proofs.attractive_perturbation_uvb3.delta_b3.Statement.{statement}
 use Rattle.uvtheory_range_b3.proofs.attractive_perturbation_uvb3.delta_b3.Tie as tie
@@ -30,7 +30,7 @@ returns c =
       c16 .mul .ensures,
       c17 .b3-term .ensures,
       c18 .div .ensures,
-      one-point,
+      one-constant,
     )
 
 pub delta-b3-spec : {M : Type 1} → statement M

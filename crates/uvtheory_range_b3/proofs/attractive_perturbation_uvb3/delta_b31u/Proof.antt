@@ -1,5 +1,5 @@
 use borrow.Author.Needs.{needs}
-use Rattle.range.proofs.Points.{one-point}
+use Rattle.range.proofs.Constants.{one-constant}
 use Rattle.uvtheory.specs.Wca.AttractivePerturbationUvb3 as F
 use Rattle.uvtheory_range_b3.proofs.attractive_perturbation_uvb3.delta_b31u.Statement.{statement}
 use Rattle.uvtheory_range_b3.proofs.attractive_perturbation_uvb3.delta_b31u.Tie as tie
@@ -15,17 +15,17 @@ returns c =
       c1 .powi2 .ensures,
       c2 .mul4 .ensures,
       c3 .mul3 .ensures,
-      c4 .point2 .ensures,
+      c4 .constant2 .ensures,
       c5 .mul2 .ensures,
       c6 .mul .ensures,
-      c7 .point .ensures,
+      c7 .constant .ensures,
       c8 .div3 .ensures,
       c9 .k1-of .ensures,
       c10 .sub .ensures,
       c11 .div2 .ensures,
       c12 .powi .ensures,
       c13 .div .ensures,
-      one-point,
+      one-constant,
     )
 
 pub delta-b31u-spec : {M : Type 1} → statement M

@@ -8,13 +8,13 @@ returns c =
     rw (
       c .delta-b3 .ensures,
       c1 .mul .ensures,
-      c2 .point3 .ensures,
+      c2 .constant3 .ensures,
       c3 .div3 .ensures,
       c4 .add .ensures,
       c5 .div2 .ensures,
-      c6 .point2 .ensures,
+      c6 .constant2 .ensures,
       c7 .div .ensures,
-      c8 .point .ensures,
+      c8 .constant .ensures,
     )
 
 pub delta-b3-at-spec : {M : Type 1} → statement M

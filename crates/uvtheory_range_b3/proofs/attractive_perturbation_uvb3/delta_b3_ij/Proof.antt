@@ -5,21 +5,21 @@ use mathlib.Core.List.{List}
 use native.Mathlib.Omega.{arith}
 use lib.Ieee.{Float}
 use Rattle.range.specs.declared.basic.Range.{Range}
-use Rattle.range.specs.Rules.{failed, ranges}
+use Rattle.range.specs.Rules.{ranges}
 use Rattle.uvtheory.specs.Literals as N
 use Rattle.uvtheory.specs.Wca.AttractivePerturbationUvb3 as F
 use Rattle.uvtheory.proofs.Loops.{at-pair, pair-within, square-le, Filled, one-more, Bounds, square-fits}
-use Rattle.uvtheory_range.specs.Rows.{points, row, matrix}
+use Rattle.uvtheory_range.specs.Rows.{missing, constants, row, matrix}
 use Rattle.uvtheory_range_b3.proofs.attractive_perturbation_uvb3.delta_b3_ij.Statement.{statement}
 use Rattle.uvtheory_range_b3.proofs.attractive_perturbation_uvb3.delta_b3_ij.Tie as tie
 
 abbrev worked : ℕ → Range → List Float → List Range → List Range → List Range → List Range → List Range → ℕ → ℕ → Range
 worked n t sigma d rep-ij eps-k-ij q rm i j =
     F.delta-b3 ranges (ranges .div t (matrix n eps-k-ij i j)) (matrix n rm i j) (matrix n rep-ij i j)
-    (ranges .mul (ranges .add (ranges .div (row d i) (points sigma i)) (ranges .div (row d j) (points sigma j))) (ranges .constant N.half)) (matrix n q i j)
+    (ranges .mul (ranges .add (ranges .div (row d i) (constants sigma i)) (ranges .div (row d j) (constants sigma j))) (ranges .constant N.half)) (matrix n q i j)
 
 abbrev Inv-loop : tie.InvT-loop
-Inv-loop n t sigma d rep-ij eps-k-ij q rm b3₀ k₀ b3 k = (k ≤ n * n) × Filled failed n k b3 (worked n t sigma d rep-ij eps-k-ij q rm)
+Inv-loop n t sigma d rep-ij eps-k-ij q rm b3₀ k₀ b3 k = (k ≤ n * n) × Filled missing n k b3 (worked n t sigma d rep-ij eps-k-ij q rm)
 
 abbrev μ-loop : tie.MeasureT-loop
 μ-loop n t sigma d rep-ij eps-k-ij q rm b3₀ k₀ b3 k = n * n - k
@@ -39,7 +39,7 @@ loop-again c =
     let n = start .args .n in
     let a = start .args .c in (
       omega arith,
-      one-more failed n (l .k) (l .b3) (worked n (start .args .t) (start .args .sigma .now) (start .args .t5) (a .«rep_ij») (a .«eps_k_ij») (start .args .l .q) (start .args .l .rm)) _ (omega (arith, square-le n (start .pre))) (l .inv .1) (c .delta-b3-at .ensures ∙ rw (at-pair n (l .k))),
+      one-more missing n (l .k) (l .b3) (worked n (start .args .t) (start .args .sigma .now) (start .args .t5) (a .«rep_ij») (a .«eps_k_ij») (start .args .l .q) (start .args .l .rm)) _ (omega (arith, square-le n (start .pre))) (l .inv .1) (c .delta-b3-at .ensures ∙ rw (at-pair n (l .k))),
     )
 
 returns : tie.Need-returns Inv-loop μ-loop

@@ -1,4 +1,4 @@
-use Rattle.range.proofs.Points.{one-point}
+use Rattle.range.proofs.Constants.{one-constant}
 use Rattle.uvtheory.specs.Wca.AttractivePerturbationUvb3 as F
 use Rattle.uvtheory_range_b3.proofs.attractive_perturbation_uvb3.energy.Statement.{statement}
 use Rattle.uvtheory_range_b3.proofs.attractive_perturbation_uvb3.energy.Tie as tie
@@ -31,7 +31,7 @@ returns c =
       c17 .mie-prefactor .ensures,
       c18 .rm-of .ensures,
       c19 .div .ensures,
-      one-point,
+      one-constant,
     )
 
 pub energy-spec : {M : Type 1} → statement M

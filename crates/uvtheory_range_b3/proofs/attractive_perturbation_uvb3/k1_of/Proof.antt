@@ -12,20 +12,20 @@ returns c =
     rw (
       c .add5 .ensures,
       c1 .add4 .ensures,
-      c2 .point6 .ensures,
+      c2 .constant6 .ensures,
       c3 .mul5 .ensures,
       c4 .add3 .ensures,
-      c5 .point5 .ensures,
+      c5 .constant5 .ensures,
       c6 .add2 .ensures,
       c7 .mul4 .ensures,
-      c8 .point4 .ensures,
+      c8 .constant4 .ensures,
       c9 .mul3 .ensures,
-      c10 .point3 .ensures,
+      c10 .constant3 .ensures,
       c11 .add .ensures,
       c12 .mul2 .ensures,
-      c13 .point2 .ensures,
+      c13 .constant2 .ensures,
       c14 .mul .ensures,
-      c15 .point .ensures,
+      c15 .constant .ensures,
     )
 
 pub k1-of-spec : {M : Type 1} → statement M

@@ -1,6 +1,6 @@
 use borrow.Author.Needs.{needs}
 use lib.Ieee.{ofBits}
-use Rattle.range.proofs.Points.{one-point, zero-point}
+use Rattle.range.proofs.Constants.{one-constant, zero-constant}
 use Rattle.uvtheory.specs.Wca.AttractivePerturbationUvb3 as F
 use Rattle.uvtheory_range_b3.proofs.attractive_perturbation_uvb3.omega.Statement.{statement}
 use Rattle.uvtheory_range_b3.proofs.attractive_perturbation_uvb3.omega.Tie as tie
@@ -24,9 +24,9 @@ returns c =
       c5 .div .ensures,
       c6 .tanh .ensures,
       c7 .mul .ensures,
-      c8 .point .ensures,
-      one-point,
-      zero-point,
+      c8 .constant .ensures,
+      one-constant,
+      zero-constant,
     )
 
 pub omega-spec : {M : Type 1} → statement M

@@ -26,7 +26,7 @@ loop-again c =
     let c1 = c .before in let c2 = c1 .before in let c3 = c2 .before in let c4 = c3 .before in let c5 = c4 .before in
     let l = c5 .before .before .loop in (
       omega arith,
-      rw (add-one (l .m), c .add .ensures, c1 .div .ensures, c2 .mul2 .ensures, c3 .point2 .ensures, c4 .point .ensures, c5 .mul .ensures, l .inv .1, l .inv .2),
+      rw (add-one (l .m), c .add .ensures, c1 .div .ensures, c2 .mul2 .ensures, c3 .constant2 .ensures, c4 .constant .ensures, c5 .mul .ensures, l .inv .1, l .inv .2),
       rw (add-one (l .m), c5 .mul .ensures, l .inv .2),
     )
 

@@ -9,12 +9,12 @@ returns c =
     let c7 = c6 .before in
     rw (
       c .mul2 .ensures,
-      c1 .point3 .ensures,
+      c1 .constant3 .ensures,
       c2 .powi2 .ensures,
       c3 .div .ensures,
-      c4 .point2 .ensures,
+      c4 .constant2 .ensures,
       c5 .mul .ensures,
-      c6 .point .ensures,
+      c6 .constant .ensures,
       c7 .powi .ensures,
     )
 

@@ -1,5 +1,5 @@
 use borrow.Author.Needs.{needs}
-use Rattle.range.proofs.Points.{one-point}
+use Rattle.range.proofs.Constants.{one-constant}
 use Rattle.uvtheory.specs.Wca.AttractivePerturbationUvb3 as F
 use Rattle.uvtheory_range_b3.proofs.attractive_perturbation_uvb3.u_fraction_wca.Statement.{statement}
 use Rattle.uvtheory_range_b3.proofs.attractive_perturbation_uvb3.u_fraction_wca.Tie as tie
@@ -21,21 +21,21 @@ returns c =
       c6 .mul4 .ensures,
       c7 .powi2 .ensures,
       c8 .add2 .ensures,
-      c9 .point5 .ensures,
+      c9 .constant5 .ensures,
       c10 .mul3 .ensures,
-      c11 .point4 .ensures,
+      c11 .constant4 .ensures,
       c12 .div .ensures,
       c13 .add .ensures,
-      c14 .point3 .ensures,
+      c14 .constant3 .ensures,
       c15 .exp .ensures,
       c16 .mul2 .ensures,
       c17 .powi .ensures,
       c18 .mul .ensures,
-      c19 .point2 .ensures,
+      c19 .constant2 .ensures,
       c20 .neg .ensures,
       c21 .sub .ensures,
-      c22 .point .ensures,
-      one-point,
+      c22 .constant .ensures,
+      one-constant,
     )
 
 pub u-fraction-wca-spec : {M : Type 1} → statement M

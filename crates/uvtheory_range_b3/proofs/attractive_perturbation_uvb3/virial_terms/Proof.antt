@@ -8,7 +8,7 @@ returns c =
       c .add .ensures,
       c1 .mul4 .ensures,
       c2 .mul3 .ensures,
-      c3 .point .ensures,
+      c3 .constant .ensures,
       c4 .mul2 .ensures,
       c5 .mul .ensures,
       c6 .powi .ensures,

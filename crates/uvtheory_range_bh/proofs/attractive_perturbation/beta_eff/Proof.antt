@@ -1,5 +1,5 @@
 use borrow.Author.Needs.{needs}
-use Rattle.range.proofs.Points.{one-point}
+use Rattle.range.proofs.Constants.{one-constant}
 use Rattle.uvtheory.specs.Bh.AttractivePerturbation as F
 use Rattle.uvtheory_range_bh.proofs.attractive_perturbation.beta_eff.Statement.{statement}
 use Rattle.uvtheory_range_bh.proofs.attractive_perturbation.beta_eff.Tie as tie
@@ -26,7 +26,7 @@ returns c =
       c12 .coefficient-23 .ensures,
       c14 .coefficient-22 .ensures,
       c16 .coefficient-2 .ensures,
-      one-point,
+      one-constant,
     )
 
 pub beta-eff-spec : {M : Type 1} → statement M

@@ -1,4 +1,4 @@
-use Rattle.range.proofs.Points.{one-point}
+use Rattle.range.proofs.Constants.{one-constant}
 use Rattle.uvtheory.specs.Bh.AttractivePerturbation as F
 use Rattle.uvtheory_range_bh.proofs.attractive_perturbation.c11.Statement.{statement}
 use Rattle.uvtheory_range_bh.proofs.attractive_perturbation.c11.Tie as tie
@@ -14,10 +14,10 @@ returns c =
       c1 .div2 .ensures,
       c2 .mul3 .ensures,
       c3 .div .ensures,
-      c4 .point4 .ensures,
+      c4 .constant4 .ensures,
       c5 .add2 .ensures,
       c6 .mul2 .ensures,
-      c7 .point3 .ensures,
+      c7 .constant3 .ensures,
       c8 .neg2 .ensures,
       c9 .powi .ensures,
       c10 .sub2 .ensures,
@@ -25,11 +25,11 @@ returns c =
       c12 .sub .ensures,
       c13 .powf .ensures,
       c14 .mul .ensures,
-      c15 .point2 .ensures,
+      c15 .constant2 .ensures,
       c16 .add .ensures,
       c17 .neg .ensures,
-      c18 .point .ensures,
-      one-point,
+      c18 .constant .ensures,
+      one-constant,
     )
 
 pub c11-spec : {M : Type 1} → statement M

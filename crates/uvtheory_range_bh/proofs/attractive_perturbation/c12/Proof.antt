@@ -1,4 +1,4 @@
-use Rattle.range.proofs.Points.{one-point}
+use Rattle.range.proofs.Constants.{one-constant}
 use Rattle.uvtheory.specs.Bh.AttractivePerturbation as F
 use Rattle.uvtheory_range_bh.proofs.attractive_perturbation.c12.Statement.{statement}
 use Rattle.uvtheory_range_bh.proofs.attractive_perturbation.c12.Tie as tie
@@ -12,12 +12,12 @@ returns c =
     let c19 = c18 .before in
     rw (
       c .mul4 .ensures,
-      c1 .point4 .ensures,
+      c1 .constant4 .ensures,
       c2 .add3 .ensures,
       c3 .div2 .ensures,
       c4 .mul3 .ensures,
       c5 .div .ensures,
-      c6 .point3 .ensures,
+      c6 .constant3 .ensures,
       c7 .add2 .ensures,
       c8 .mul2 .ensures,
       c9 .neg2 .ensures,
@@ -27,11 +27,11 @@ returns c =
       c13 .sub .ensures,
       c14 .powf .ensures,
       c15 .mul .ensures,
-      c16 .point2 .ensures,
+      c16 .constant2 .ensures,
       c17 .add .ensures,
       c18 .neg .ensures,
-      c19 .point .ensures,
-      one-point,
+      c19 .constant .ensures,
+      one-constant,
     )
 
 pub c12-spec : {M : Type 1} → statement M

@@ -1,4 +1,4 @@
-use Rattle.range.proofs.Points.{one-point}
+use Rattle.range.proofs.Constants.{one-constant}
 use Rattle.uvtheory.specs.Bh.AttractivePerturbation as F
 use Rattle.uvtheory_range_bh.proofs.attractive_perturbation.c13.Statement.{statement}
 use Rattle.uvtheory_range_bh.proofs.attractive_perturbation.c13.Tie as tie
@@ -11,7 +11,7 @@ returns c =
     let c13 = c12 .before in let c14 = c13 .before in let c15 = c14 .before in
     rw (
       c .div2 .ensures,
-      c1 .point3 .ensures,
+      c1 .constant3 .ensures,
       c2 .sub2 .ensures,
       c3 .mul2 .ensures,
       c4 .powf2 .ensures,
@@ -22,11 +22,11 @@ returns c =
       c9 .sub .ensures,
       c10 .powf .ensures,
       c11 .mul .ensures,
-      c12 .point2 .ensures,
+      c12 .constant2 .ensures,
       c13 .add .ensures,
       c14 .neg .ensures,
-      c15 .point .ensures,
-      one-point,
+      c15 .constant .ensures,
+      one-constant,
     )
 
 pub c13-spec : {M : Type 1} → statement M

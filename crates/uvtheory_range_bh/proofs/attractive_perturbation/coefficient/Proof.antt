@@ -1,5 +1,5 @@
 use borrow.Author.Needs.{needs}
-use Rattle.range.proofs.Points.{one-point}
+use Rattle.range.proofs.Constants.{one-constant}
 use Rattle.uvtheory.specs.Bh.AttractivePerturbation as F
 use Rattle.uvtheory_range_bh.proofs.attractive_perturbation.coefficient.Statement.{statement}
 use Rattle.uvtheory_range_bh.proofs.attractive_perturbation.coefficient.Tie as tie
@@ -15,14 +15,14 @@ returns c =
       c2 .add3 .ensures,
       c3 .neg .ensures,
       c4 .add2 .ensures,
-      c5 .point4 .ensures,
+      c5 .constant4 .ensures,
       c6 .mul2 .ensures,
-      c7 .point3 .ensures,
+      c7 .constant3 .ensures,
       c8 .add .ensures,
-      c9 .point2 .ensures,
+      c9 .constant2 .ensures,
       c10 .mul .ensures,
-      c11 .point .ensures,
-      one-point,
+      c11 .constant .ensures,
+      one-constant,
     )
 
 pub coefficient-spec : {M : Type 1} → statement M

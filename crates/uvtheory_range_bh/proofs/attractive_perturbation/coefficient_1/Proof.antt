@@ -9,9 +9,9 @@ returns c =
     let c7 = c6 .before in let c8 = c7 .before in let c9 = c8 .before in let c10 = c9 .before in let c11 = c10 .before in let c12 = c11 .before in
     rw (
       c .mul2 .ensures,
-      c1 .point3 .ensures,
+      c1 .constant3 .ensures,
       c2 .mul .ensures,
-      c3 .point2 .ensures,
+      c3 .constant2 .ensures,
       c4 .add3 .ensures,
       c5 .c13 .ensures,
       c6 .add2 .ensures,
@@ -19,7 +19,7 @@ returns c =
       c8 .c11 .ensures,
       c9 .powf .ensures,
       c10 .add .ensures,
-      c11 .point .ensures,
+      c11 .constant .ensures,
       c12 .neg .ensures,
     )
 

@@ -5,7 +5,7 @@ use Rattle.uvtheory_range_bh.proofs.attractive_perturbation.coefficient
 returns : tie.Need-returns
 returns c =
     let c1 = c .before in let c2 = c1 .before in let c3 = c2 .before in
-    rw (c .add .ensures, c1 .point2 .ensures, c2 .mul .ensures, c3 .point .ensures)
+    rw (c .add .ensures, c1 .constant2 .ensures, c2 .mul .ensures, c3 .constant .ensures)
 
 pub coefficient-u-spec : {M : Type 1} → statement M
 coefficient-u-spec = tie.close (tie.spec (λ c. search needs) (λ c κs. tt) (λ c κs. tt) (λ c. search needs) (λ c κs. tt) (λ c κs. tt) returns)

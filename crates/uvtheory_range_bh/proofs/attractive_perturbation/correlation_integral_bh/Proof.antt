@@ -1,5 +1,5 @@
 use borrow.Author.Needs.{needs}
-use Rattle.range.proofs.Points.{one-point}
+use Rattle.range.proofs.Constants.{one-constant}
 use Rattle.uvtheory.specs.Bh.AttractivePerturbation as F
 use Rattle.uvtheory_range_bh.proofs.attractive_perturbation.correlation_integral_bh.Statement.{statement}
 use Rattle.uvtheory_range_bh.proofs.attractive_perturbation.correlation_integral_bh.Tie as tie
@@ -26,7 +26,7 @@ returns c =
       c14 .mul .ensures,
       c15 .coefficient-1 .ensures,
       c16 .div .ensures,
-      one-point,
+      one-constant,
     )
 
 pub correlation-integral-bh-spec : {M : Type 1} → statement M

@@ -1,4 +1,4 @@
-use Rattle.range.proofs.Points.{one-point}
+use Rattle.range.proofs.Constants.{one-constant}
 use Rattle.uvtheory.specs.Bh.AttractivePerturbation as F
 use Rattle.uvtheory_range_bh.proofs.attractive_perturbation.delta_b2.Statement.{statement}
 use Rattle.uvtheory_range_bh.proofs.attractive_perturbation.delta_b2.Tie as tie
@@ -11,14 +11,14 @@ returns c =
     let c13 = c12 .before in let c14 = c13 .before in let c15 = c14 .before in let c16 = c15 .before in let c17 = c16 .before in
     rw (
       c .mul4 .ensures,
-      c1 .point4 .ensures,
+      c1 .constant4 .ensures,
       c2 .mul3 .ensures,
-      c3 .point3 .ensures,
+      c3 .constant3 .ensures,
       c4 .neg .ensures,
       c5 .add .ensures,
       c6 .mul2 .ensures,
       c7 .div2 .ensures,
-      c8 .point2 .ensures,
+      c8 .constant2 .ensures,
       c9 .mul .ensures,
       c10 .sub .ensures,
       c11 .powi .ensures,
@@ -27,8 +27,8 @@ returns c =
       c14 .div .ensures,
       c15 .mean-field-of .ensures,
       c16 .mie-prefactor .ensures,
-      c17 .point .ensures,
-      one-point,
+      c17 .constant .ensures,
+      one-constant,
     )
 
 pub delta-b2-spec : {M : Type 1} → statement M

@@ -1,4 +1,4 @@
-use Rattle.range.proofs.Points.{one-point}
+use Rattle.range.proofs.Constants.{one-constant}
 use Rattle.uvtheory.specs.Bh.AttractivePerturbation as F
 use Rattle.uvtheory_range_bh.proofs.attractive_perturbation.energy.Statement.{statement}
 use Rattle.uvtheory_range_bh.proofs.attractive_perturbation.energy.Tie as tie
@@ -23,9 +23,9 @@ returns c =
       c9 .div3 .ensures,
       c10 .mul5 .ensures,
       c11 .mul4 .ensures,
-      c12 .point2 .ensures,
+      c12 .constant2 .ensures,
       c13 .mul3 .ensures,
-      c14 .point .ensures,
+      c14 .constant .ensures,
       c15 .mul2 .ensures,
       c16 .div2 .ensures,
       c17 .correlation-integral-bh .ensures,
@@ -34,7 +34,7 @@ returns c =
       c20 .mul .ensures,
       c21 .powi .ensures,
       c22 .div .ensures,
-      one-point,
+      one-constant,
     )
 
 pub energy-spec : {M : Type 1} → statement M

@@ -1,5 +1,5 @@
 use borrow.Author.Needs.{needs}
-use Rattle.range.proofs.Points.{one-point}
+use Rattle.range.proofs.Constants.{one-constant}
 use Rattle.uvtheory.specs.Bh.AttractivePerturbation as F
 use Rattle.uvtheory_range_bh.proofs.attractive_perturbation.u_fraction_bh.Statement.{statement}
 use Rattle.uvtheory_range_bh.proofs.attractive_perturbation.u_fraction_bh.Tie as tie
@@ -22,16 +22,16 @@ returns c =
       c7 .activation .ensures,
       c8 .mul2 .ensures,
       c9 .powf2 .ensures,
-      c10 .point2 .ensures,
+      c10 .constant2 .ensures,
       c11 .mul .ensures,
       c12 .powf .ensures,
-      c13 .point .ensures,
+      c13 .constant .ensures,
       c14 .coefficient-u4 .ensures,
       c16 .coefficient-u3 .ensures,
       c18 .coefficient-u2 .ensures,
       c20 .coefficient-u .ensures,
       c22 .div .ensures,
-      one-point,
+      one-constant,
     )
 
 pub u-fraction-bh-spec : {M : Type 1} → statement M

@@ -8,12 +8,12 @@ returns c =
     let c7 = c6 .before in let c8 = c7 .before in let c9 = c8 .before in let c10 = c9 .before in let c11 = c10 .before in
     rw (
       c .diameter-of .ensures,
-      c1 .point3 .ensures,
+      c1 .constant3 .ensures,
       c4 .quarter-powers .ensures,
       c8 .bh-coefficients .ensures,
       c9 .div .ensures,
-      c10 .point2 .ensures,
-      c11 .point .ensures,
+      c10 .constant2 .ensures,
+      c11 .constant .ensures,
     )
 
 pub component-diameter-spec : {M : Type 1} → statement M

@@ -6,19 +6,19 @@ use native.Mathlib.Omega.{arith}
 use lib.ListN.{length, length-set}
 use lib.Ieee.{Float}
 use Rattle.range.specs.declared.basic.Range.{Range}
-use Rattle.range.specs.Rules.{failed, ranges}
+use Rattle.range.specs.Rules.{ranges}
 use Rattle.uvtheory.specs.Literals as N
 use Rattle.uvtheory.specs.Parameters as P
 use Rattle.uvtheory.specs.Bh.HardSphere as F
 use Rattle.uvtheory.proofs.Loops.{row-set, InRow, in-row}
-use Rattle.uvtheory_range.specs.Rows.{points, Row}
+use Rattle.uvtheory_range.specs.Rows.{missing, constants, Row}
 use Rattle.uvtheory_range_bh.proofs.hard_sphere.diameter_bh.Statement.{statement}
 use Rattle.uvtheory_range_bh.proofs.hard_sphere.diameter_bh.Tie as tie
 
 abbrev diameter : Range → List Float → List Float → List Float → ℕ → Range
 diameter t rep sigma epsilon-k i =
-    let c = P.bh-coefficients ranges (points rep i) (ranges .constant N.six) in
-    F.diameter-of ranges (ranges .div t (points epsilon-k i)) (c 0) (c 1) (c 2) (c 3) (c 4) (points rep i) (points sigma i)
+    let c = P.bh-coefficients ranges (constants rep i) (ranges .constant N.six) in
+    F.diameter-of ranges (ranges .div t (constants epsilon-k i)) (c 0) (c 1) (c 2) (c 3) (c 4) (constants rep i) (constants sigma i)
 
 abbrev Inv-loop : tie.InvT-loop
 Inv-loop temperature n rep sigma epsilon-k a76 d₀ i₀ d i = (i ≤ n) × (length d ≡ 8) × Row i d (diameter temperature rep sigma epsilon-k)
@@ -36,7 +36,7 @@ loop-holds c = (omega arith, refl, λ i h. absurd (omega arith))
 loop-again : tie.Need-loop-again Inv-loop μ-loop
 loop-again c =
     let l = c .before .before .loop in
-    (omega arith, simp length-set (l .inv .1), row-set failed _ _ (l .i) (l .d) (omega arith) (l .inv .2) (c .component-diameter .ensures))
+    (omega arith, simp length-set (l .inv .1), row-set missing _ _ (l .i) (l .d) (omega arith) (l .inv .2) (c .component-diameter .ensures))
 
 returns : tie.Need-returns Inv-loop μ-loop
 unfolding F.diameter-bh

@@ -1,4 +1,4 @@
-use Rattle.range.proofs.Points.{one-point}
+use Rattle.range.proofs.Constants.{one-constant}
 use Rattle.uvtheory.specs.Bh.HardSphere as F
 use Rattle.uvtheory_range_bh.proofs.hard_sphere.diameter_of.Statement.{statement}
 use Rattle.uvtheory_range_bh.proofs.hard_sphere.diameter_of.Tie as tie
@@ -12,7 +12,7 @@ returns c =
       c .mul4 .ensures,
       c1 .powf .ensures,
       c2 .div .ensures,
-      c3 .point .ensures,
+      c3 .constant .ensures,
       c4 .add4 .ensures,
       c5 .add3 .ensures,
       c6 .mul3 .ensures,
@@ -22,7 +22,7 @@ returns c =
       c10 .ln .ensures,
       c11 .add .ensures,
       c12 .mul .ensures,
-      one-point,
+      one-constant,
     )
 
 pub diameter-of-spec : {M : Type 1} → statement M

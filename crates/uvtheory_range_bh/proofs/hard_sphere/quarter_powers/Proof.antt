@@ -11,14 +11,14 @@ returns c =
       c .add2 .ensures,
       c1 .mul3 .ensures,
       c2 .powf3 .ensures,
-      c3 .point3 .ensures,
+      c3 .constant3 .ensures,
       c4 .add .ensures,
       c5 .mul2 .ensures,
       c6 .powf2 .ensures,
-      c7 .point2 .ensures,
+      c7 .constant2 .ensures,
       c8 .mul .ensures,
       c9 .powf .ensures,
-      c10 .point .ensures,
+      c10 .constant .ensures,
     )
 
 pub quarter-powers-spec : {M : Type 1} → statement M

@@ -3,12 +3,7 @@ use Rattle.uvtheory_range_bh.proofs.reference_perturbation.component_of
 use Rattle.uvtheory_range_bh.proofs.reference_perturbation.component_of.Tie as tie
 
 returns : tie.Need-returns
-returns c =
-    let c1 = c .before in let c2 = c1 .before in let c3 = c2 .before in
-    rw (
-      c .point2 .ensures,
-      c3 .point .ensures,
-    )
+returns c = rw (c .constant .ensures)
 
 pub component-of-spec : {M : Type 1} → statement M
-component-of-spec = tie.close (tie.spec (λ c. search needs) (λ c. search needs) (λ c κs. tt) (λ c. search needs) (λ c. search needs) (λ c. search needs) (λ c. search needs) (λ c κs. tt) returns)
+component-of-spec = tie.close (tie.spec (λ c. search needs) (λ c. search needs) (λ c. search needs) (λ c. search needs) (λ c. search needs) (λ c. search needs) (λ c κs. tt) returns)

@@ -1,4 +1,4 @@
-use Rattle.range.proofs.Points.{one-point}
+use Rattle.range.proofs.Constants.{one-constant}
 use Rattle.uvtheory.specs.Bh.ReferencePerturbation as F
 use Rattle.uvtheory_range_bh.proofs.reference_perturbation.term.Statement.{statement}
 use Rattle.uvtheory_range_bh.proofs.reference_perturbation.term.Tie as tie
@@ -35,8 +35,8 @@ returns c =
       c21 .neg .ensures,
       c22 .mul .ensures,
       c23 .add .ensures,
-      c24 .point .ensures,
-      one-point,
+      c24 .constant .ensures,
+      one-constant,
     )
 
 pub term-spec : {M : Type 1} → statement M

@@ -1,4 +1,4 @@
-use Rattle.range.proofs.Points.{one-point, zero-point}
+use Rattle.range.proofs.Constants.{one-constant, zero-constant}
 use Rattle.uvtheory_range_wca.proofs.attractive_perturbation.beta_eff_by.Statement.{statement}
 use Rattle.uvtheory_range_wca.proofs.attractive_perturbation.beta_eff_by.Tie as tie
 
@@ -20,12 +20,12 @@ returns c =
       c9 .powf3 .ensures,
       c10 .mul2 .ensures,
       c11 .powf2 .ensures,
-      c12 .point2 .ensures,
+      c12 .constant2 .ensures,
       c13 .mul .ensures,
       c14 .powf .ensures,
-      c15 .point .ensures,
-      one-point,
-      zero-point,
+      c15 .constant .ensures,
+      one-constant,
+      zero-constant,
     )
 
 pub beta-eff-by-spec : {M : Type 1} → statement M

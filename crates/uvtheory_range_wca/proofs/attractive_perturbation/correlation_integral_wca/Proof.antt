@@ -1,4 +1,4 @@
-use Rattle.range.proofs.Points.{one-point}
+use Rattle.range.proofs.Constants.{one-constant}
 use Rattle.uvtheory.specs.Wca.AttractivePerturbation as F
 use Rattle.uvtheory_range_wca.proofs.attractive_perturbation.correlation_integral_wca.Statement.{statement}
 use Rattle.uvtheory_range_wca.proofs.attractive_perturbation.correlation_integral_wca.Tie as tie
@@ -12,7 +12,7 @@ returns c =
       c .add2 .ensures,
       c1 .sub2 .ensures,
       c2 .div2 .ensures,
-      c3 .point .ensures,
+      c3 .constant .ensures,
       c4 .mul .ensures,
       c5 .correlation-quotient .ensures,
       c6 .add .ensures,
@@ -21,7 +21,7 @@ returns c =
       c9 .sub .ensures,
       c10 .powi2 .ensures,
       c11 .powi .ensures,
-      one-point,
+      one-constant,
     )
 
 pub correlation-integral-wca-spec : {M : Type 1} → statement M

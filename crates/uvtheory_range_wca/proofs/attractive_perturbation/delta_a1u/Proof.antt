@@ -10,9 +10,9 @@ returns c =
     rw (
       c .mul5 .ensures,
       c1 .mul4 .ensures,
-      c2 .point2 .ensures,
+      c2 .constant2 .ensures,
       c3 .mul3 .ensures,
-      c4 .point .ensures,
+      c4 .constant .ensures,
       c5 .mul2 .ensures,
       c6 .div .ensures,
       c7 .correlation-integral-wca .ensures,

@@ -1,4 +1,4 @@
-use Rattle.range.proofs.Points.{one-point}
+use Rattle.range.proofs.Constants.{one-constant}
 use Rattle.uvtheory.specs.Wca.AttractivePerturbation as F
 use Rattle.uvtheory_range_wca.proofs.attractive_perturbation.delta_b12u.Statement.{statement}
 use Rattle.uvtheory_range_wca.proofs.attractive_perturbation.delta_b12u.Tie as tie
@@ -12,19 +12,19 @@ returns c =
     rw (
       c .mul4 .ensures,
       c1 .mul3 .ensures,
-      c2 .point3 .ensures,
+      c2 .constant3 .ensures,
       c3 .mul2 .ensures,
-      c4 .point2 .ensures,
+      c4 .constant2 .ensures,
       c5 .div2 .ensures,
       c6 .sub2 .ensures,
       c7 .neg .ensures,
       c8 .div .ensures,
-      c9 .point .ensures,
+      c9 .constant .ensures,
       c10 .mul .ensures,
       c11 .sub .ensures,
       c12 .powi2 .ensures,
       c13 .powi .ensures,
-      one-point,
+      one-constant,
     )
 
 pub delta-b12u-spec : {M : Type 1} → statement M

@@ -1,4 +1,4 @@
-use Rattle.range.proofs.Points.{one-point}
+use Rattle.range.proofs.Constants.{one-constant}
 use Rattle.uvtheory.specs.Wca.AttractivePerturbation as F
 use Rattle.uvtheory_range_wca.proofs.attractive_perturbation.delta_b2.Statement.{statement}
 use Rattle.uvtheory_range_wca.proofs.attractive_perturbation.delta_b2.Tie as tie
@@ -13,9 +13,9 @@ returns c =
     let c25 = c24 .before in
     rw (
       c .mul5 .ensures,
-      c1 .point4 .ensures,
+      c1 .constant4 .ensures,
       c2 .mul4 .ensures,
-      c3 .point3 .ensures,
+      c3 .constant3 .ensures,
       c4 .neg2 .ensures,
       c5 .add3 .ensures,
       c6 .mul3 .ensures,
@@ -36,9 +36,9 @@ returns c =
       c21 .exp .ensures,
       c22 .div .ensures,
       c23 .mean-field-of .ensures,
-      c24 .point2 .ensures,
-      c25 .point .ensures,
-      one-point,
+      c24 .constant2 .ensures,
+      c25 .constant .ensures,
+      one-constant,
     )
 
 pub delta-b2-spec : {M : Type 1} → statement M

@@ -1,4 +1,4 @@
-use Rattle.range.proofs.Points.{one-point}
+use Rattle.range.proofs.Constants.{one-constant}
 use Rattle.uvtheory.specs.Wca.AttractivePerturbation as F
 use Rattle.uvtheory_range_wca.proofs.attractive_perturbation.energy.Statement.{statement}
 use Rattle.uvtheory_range_wca.proofs.attractive_perturbation.energy.Tie as tie
@@ -25,7 +25,7 @@ returns c =
       c12 .mie-prefactor .ensures,
       c13 .rm-of .ensures,
       c14 .div .ensures,
-      one-point,
+      one-constant,
     )
 
 pub energy-spec : {M : Type 1} → statement M

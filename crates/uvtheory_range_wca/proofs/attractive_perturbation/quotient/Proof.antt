@@ -1,4 +1,4 @@
-use Rattle.range.proofs.Points.{one-point}
+use Rattle.range.proofs.Constants.{one-constant}
 use Rattle.uvtheory_range_wca.proofs.attractive_perturbation.quotient.Statement.{statement}
 use Rattle.uvtheory_range_wca.proofs.attractive_perturbation.quotient.Tie as tie
 
@@ -9,7 +9,7 @@ returns c =
       c .div .ensures,
       c1 .add .ensures,
       c2 .mul .ensures,
-      one-point,
+      one-constant,
     )
 
 pub quotient-spec : {M : Type 1} → statement M

@@ -1,4 +1,4 @@
-use Rattle.range.proofs.Points.{one-point}
+use Rattle.range.proofs.Constants.{one-constant}
 use Rattle.uvtheory.specs.Wca.AttractivePerturbation as F
 use Rattle.uvtheory_range_wca.proofs.attractive_perturbation.u_fraction_wca.Statement.{statement}
 use Rattle.uvtheory_range_wca.proofs.attractive_perturbation.u_fraction_wca.Tie as tie
@@ -11,7 +11,7 @@ returns c =
       c .tanh .ensures,
       c1 .u-polynomial .ensures,
       c2 .div .ensures,
-      one-point,
+      one-constant,
     )
 
 pub u-fraction-wca-spec : {M : Type 1} → statement M

@@ -11,11 +11,11 @@ returns c =
       c1 .mul3 .ensures,
       c2 .powi .ensures,
       c3 .add .ensures,
-      c4 .point3 .ensures,
+      c4 .constant3 .ensures,
       c5 .mul2 .ensures,
-      c6 .point2 .ensures,
+      c6 .constant2 .ensures,
       c7 .mul .ensures,
-      c8 .point .ensures,
+      c8 .constant .ensures,
     )
 
 pub u-polynomial-spec : {M : Type 1} → statement M

@@ -1,4 +1,4 @@
-use Rattle.range.proofs.Points.{one-point}
+use Rattle.range.proofs.Constants.{one-constant}
 use Rattle.uvtheory.specs.Wca.AttractivePerturbation as F
 use Rattle.uvtheory_range_wca.proofs.attractive_perturbation.y_eff.Statement.{statement}
 use Rattle.uvtheory_range_wca.proofs.attractive_perturbation.y_eff.Tie as tie
@@ -16,12 +16,12 @@ returns c =
       c4 .div .ensures,
       c5 .mul .ensures,
       c6 .sub2 .ensures,
-      c7 .point2 .ensures,
+      c7 .constant2 .ensures,
       c8 .sub .ensures,
       c9 .powi2 .ensures,
       c10 .powi .ensures,
-      c11 .point .ensures,
-      one-point,
+      c11 .constant .ensures,
+      one-constant,
     )
 
 pub y-eff-spec : {M : Type 1} → statement M

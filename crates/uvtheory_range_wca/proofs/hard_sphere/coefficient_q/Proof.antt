@@ -11,19 +11,19 @@ returns c =
     let c13 = c12 .before in
     rw (
       c .add3 .ensures,
-      c1 .point5 .ensures,
+      c1 .constant5 .ensures,
       c2 .add2 .ensures,
       c3 .mul3 .ensures,
-      c4 .point4 .ensures,
+      c4 .constant4 .ensures,
       c5 .powi2 .ensures,
       c6 .add .ensures,
       c7 .mul2 .ensures,
-      c8 .point3 .ensures,
+      c8 .constant3 .ensures,
       c9 .powi .ensures,
       c10 .mul .ensures,
-      c11 .point2 .ensures,
+      c11 .constant2 .ensures,
       c12 .sub .ensures,
-      c13 .point .ensures,
+      c13 .constant .ensures,
     )
 
 pub coefficient-q-spec : {M : Type 1} → statement M

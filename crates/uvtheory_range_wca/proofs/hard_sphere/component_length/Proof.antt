@@ -5,9 +5,9 @@ returns : tie.Need-returns
 returns c =
     let c1 = c .before in let c2 = c1 .before in let c3 = c2 .before in let c4 = c3 .before in let c5 = c4 .before in let c6 = c5 .before in
     let c7 = c6 .before in let c8 = c7 .before in let c9 = c8 .before in (
-      rw (c4 .rm-of .ensures, c5 .point4 .ensures, c9 .point .ensures),
-      rw (c3 .diameter-of .ensures, c4 .rm-of .ensures, c5 .point4 .ensures, c6 .div .ensures, c7 .point3 .ensures, c8 .point2 .ensures, c9 .point .ensures),
-      rw (c .add .ensures, c1 .mul .ensures, c2 .neg .ensures, c8 .point2 .ensures),
+      rw (c4 .rm-of .ensures, c5 .constant4 .ensures, c9 .constant .ensures),
+      rw (c3 .diameter-of .ensures, c4 .rm-of .ensures, c5 .constant4 .ensures, c6 .div .ensures, c7 .constant3 .ensures, c8 .constant2 .ensures, c9 .constant .ensures),
+      rw (c .add .ensures, c1 .mul .ensures, c2 .neg .ensures, c8 .constant2 .ensures),
     )
 
 pub component-length-spec : {M : Type 1} → statement M

@@ -6,22 +6,22 @@ use native.Mathlib.Omega.{arith}
 use lib.ListN.{length, length-set}
 use lib.Ieee.{Float}
 use Rattle.range.specs.declared.basic.Range.{Range}
-use Rattle.range.specs.Rules.{failed, ranges}
+use Rattle.range.specs.Rules.{ranges}
 use Rattle.uvtheory.specs.Wca.HardSphere as F
 use Rattle.uvtheory.proofs.Loops.{row-set, InRow, in-row}
-use Rattle.uvtheory_range.specs.Rows.{points, Row}
+use Rattle.uvtheory_range.specs.Rows.{missing, constants, Row}
 use Rattle.uvtheory_range_wca.proofs.hard_sphere.component_lengths.Statement.{statement}
 use Rattle.uvtheory_range_wca.proofs.hard_sphere.component_lengths.Tie as tie
 
 module _ (t : Range) (rep att sigma epsilon-k : List Float) where
   abbrev minimum : ℕ → Range
-  minimum i = F.rm-of ranges (points rep i) (points att i)
+  minimum i = F.rm-of ranges (constants rep i) (constants att i)
 
   abbrev diameter : ℕ → Range
-  diameter i = F.diameter-of ranges (ranges .div t (points epsilon-k i)) (points rep i) (minimum i) (points sigma i)
+  diameter i = F.diameter-of ranges (ranges .div t (constants epsilon-k i)) (constants rep i) (minimum i) (constants sigma i)
 
   abbrev reach : ℕ → Range
-  reach i = ranges .add (ranges .neg (diameter i)) (ranges .mul (minimum i) (points sigma i))
+  reach i = ranges .add (ranges .neg (diameter i)) (ranges .mul (minimum i) (constants sigma i))
 
 abbrev Inv-loop : tie.InvT-loop
 Inv-loop temperature n rep att sigma epsilon-k rms₀ ds₀ lengths₀ i₀ rms ds lengths i =
@@ -51,9 +51,9 @@ loop-again c =
       simp length-set (l .inv .1),
       simp length-set (l .inv .2),
       simp length-set (l .inv .3),
-      row-set failed _ _ (l .i) (l .rms) (omega arith) (l .inv .4) (e .0),
-      row-set failed _ _ (l .i) (l .ds) (omega arith) (l .inv .5) (e .1),
-      row-set failed _ _ (l .i) (l .lengths) (omega arith) (l .inv .6) (rw (e .2, e .1, e .0)),
+      row-set missing _ _ (l .i) (l .rms) (omega arith) (l .inv .4) (e .0),
+      row-set missing _ _ (l .i) (l .ds) (omega arith) (l .inv .5) (e .1),
+      row-set missing _ _ (l .i) (l .lengths) (omega arith) (l .inv .6) (rw (e .2, e .1, e .0)),
     )
 
 returns : tie.Need-returns Inv-loop μ-loop

@@ -1,4 +1,4 @@
-use Rattle.range.proofs.Points.{one-point}
+use Rattle.range.proofs.Constants.{one-constant}
 use Rattle.uvtheory.specs.Wca.HardSphere as F
 use Rattle.uvtheory_range_wca.proofs.hard_sphere.diameter_of.Statement.{statement}
 use Rattle.uvtheory_range_wca.proofs.hard_sphere.diameter_of.Tie as tie
@@ -21,14 +21,14 @@ returns c =
       c8 .sub2 .ensures,
       c9 .powf .ensures,
       c10 .div2 .ensures,
-      c11 .point3 .ensures,
+      c11 .constant3 .ensures,
       c12 .div .ensures,
       c13 .sub .ensures,
       c14 .mul .ensures,
-      c15 .point2 .ensures,
+      c15 .constant2 .ensures,
       c16 .neg .ensures,
-      c17 .point .ensures,
-      one-point,
+      c17 .constant .ensures,
+      one-constant,
     )
 
 pub diameter-of-spec : {M : Type 1} → statement M

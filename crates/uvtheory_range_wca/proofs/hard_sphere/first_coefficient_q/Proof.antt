@@ -7,11 +7,11 @@ returns c =
     let c1 = c .before in let c2 = c1 .before in let c3 = c2 .before in let c4 = c3 .before in let c5 = c4 .before in
     rw (
       c .add .ensures,
-      c1 .point3 .ensures,
+      c1 .constant3 .ensures,
       c2 .mul .ensures,
-      c3 .point2 .ensures,
+      c3 .constant2 .ensures,
       c4 .sub .ensures,
-      c5 .point .ensures,
+      c5 .constant .ensures,
     )
 
 pub first-coefficient-q-spec : {M : Type 1} → statement M

@@ -4,10 +4,10 @@ use mathlib.Core.Path.{refl, _∙_}
 use mathlib.Core.List.{List}
 use native.Mathlib.Omega.{arith}
 use Rattle.range.specs.declared.basic.Range.{Range}
-use Rattle.range.specs.Rules.{failed, ranges}
+use Rattle.range.specs.Rules.{ranges}
 use Rattle.uvtheory.specs.Wca.HardSphere as F
 use Rattle.uvtheory.proofs.Loops.{at-pair, pair-within, square-le, Filled, one-more, mirror, Bounds, square-fits}
-use Rattle.uvtheory_range.specs.Rows.{matrix}
+use Rattle.uvtheory_range.specs.Rows.{missing, matrix}
 use Rattle.uvtheory_range_wca.proofs.hard_sphere.pair_lengths.Statement.{statement}
 use Rattle.uvtheory_range_wca.proofs.hard_sphere.pair_lengths.Tie as tie
 
@@ -18,7 +18,7 @@ abbrev diameter : ℕ → Range → List Range → List Range → List Range →
 diameter n t rep-ij att-ij eps-k-ij i j = F.dimensionless-diameter-q-wca ranges (ranges .div t (matrix n eps-k-ij i j)) (matrix n rep-ij i j) (matrix n att-ij i j)
 
 abbrev Inv-loop : tie.InvT-loop
-Inv-loop n t rep-ij att-ij eps-k-ij rm₀ q₀ k₀ rm q k = (k ≤ n * n) × Filled failed n k rm (minimum n t rep-ij att-ij eps-k-ij) × Filled failed n k q (diameter n t rep-ij att-ij eps-k-ij)
+Inv-loop n t rep-ij att-ij eps-k-ij rm₀ q₀ k₀ rm q k = (k ≤ n * n) × Filled missing n k rm (minimum n t rep-ij att-ij eps-k-ij) × Filled missing n k q (diameter n t rep-ij att-ij eps-k-ij)
 
 abbrev μ-loop : tie.MeasureT-loop
 μ-loop n t rep-ij att-ij eps-k-ij rm₀ q₀ k₀ rm q k = n * n - k
@@ -38,8 +38,8 @@ pair-lengths-at-requires c κs b =
     let n = start .args .n in
     let h : l .k < n * n = omega arith in
     let a = start .args .c in (
-      mirror failed (minimum n (start .args .t) (a .«rep_ij») (a .«att_ij») (a .«eps_k_ij»)) n (l .k) (l .rm) h b (l .inv .1 .1) ∙ rw (start .pre .1 (l .k) h b, start .pre .2 (l .k) h b),
-      mirror failed (diameter n (start .args .t) (a .«rep_ij») (a .«att_ij») (a .«eps_k_ij»)) n (l .k) (l .q) h b (l .inv .2 .1) ∙ rw (start .pre .1 (l .k) h b, start .pre .2 (l .k) h b, start .pre .3 (l .k) h b),
+      mirror missing (minimum n (start .args .t) (a .«rep_ij») (a .«att_ij») (a .«eps_k_ij»)) n (l .k) (l .rm) h b (l .inv .1 .1) ∙ rw (start .pre .1 (l .k) h b, start .pre .2 (l .k) h b),
+      mirror missing (diameter n (start .args .t) (a .«rep_ij») (a .«att_ij») (a .«eps_k_ij»)) n (l .k) (l .q) h b (l .inv .2 .1) ∙ rw (start .pre .1 (l .k) h b, start .pre .2 (l .k) h b, start .pre .3 (l .k) h b),
     )
 
 loop-again : tie.Need-loop-again Inv-loop μ-loop
@@ -52,8 +52,8 @@ loop-again c =
     let h : l .k < 64 = omega (arith, square-le n (start .pre .0)) in
     let a = start .args .c in (
       omega arith,
-      one-more failed n (l .k) (l .rm) (minimum n (start .args .t) (a .«rep_ij») (a .«att_ij») (a .«eps_k_ij»)) _ h (l .inv .1) (pair .pair-lengths-at .ensures .0 ∙ rw (at-pair n (l .k))),
-      one-more failed n (l .k) (l .q) (diameter n (start .args .t) (a .«rep_ij») (a .«att_ij») (a .«eps_k_ij»)) _ h (l .inv .2) (pair .pair-lengths-at .ensures .1 ∙ rw (at-pair n (l .k))),
+      one-more missing n (l .k) (l .rm) (minimum n (start .args .t) (a .«rep_ij») (a .«att_ij») (a .«eps_k_ij»)) _ h (l .inv .1) (pair .pair-lengths-at .ensures .0 ∙ rw (at-pair n (l .k))),
+      one-more missing n (l .k) (l .q) (diameter n (start .args .t) (a .«rep_ij») (a .«att_ij») (a .«eps_k_ij»)) _ h (l .inv .2) (pair .pair-lengths-at .ensures .1 ∙ rw (at-pair n (l .k))),
     )
 
 returns : tie.Need-returns Inv-loop μ-loop

@@ -1,4 +1,4 @@
-use Rattle.range.proofs.Points.{one-point}
+use Rattle.range.proofs.Constants.{one-constant}
 use Rattle.uvtheory_range_wca.proofs.hard_sphere.polynomial_by.Statement.{statement}
 use Rattle.uvtheory_range_wca.proofs.hard_sphere.polynomial_by.Tie as tie
 
@@ -20,16 +20,16 @@ returns c =
       c8 .sqrt .ensures,
       c9 .div2 .ensures,
       c10 .mul4 .ensures,
-      c11 .point3 .ensures,
+      c11 .constant3 .ensures,
       c12 .mul3 .ensures,
       c13 .mul2 .ensures,
       c14 .powf2 .ensures,
       c15 .div .ensures,
-      c16 .point2 .ensures,
+      c16 .constant2 .ensures,
       c17 .mul .ensures,
       c18 .powf .ensures,
-      c19 .point .ensures,
-      one-point,
+      c19 .constant .ensures,
+      one-constant,
     )
 
 pub polynomial-by-spec : {M : Type 1} → statement M

@@ -1,4 +1,4 @@
-use Rattle.range.proofs.Points.{one-point}
+use Rattle.range.proofs.Constants.{one-constant}
 use Rattle.uvtheory.specs.Wca.HardSphere as F
 use Rattle.uvtheory_range_wca.proofs.hard_sphere.q_of.Statement.{statement}
 use Rattle.uvtheory_range_wca.proofs.hard_sphere.q_of.Tie as tie
@@ -14,8 +14,8 @@ returns c =
       c3 .neg .ensures,
       c4 .div .ensures,
       c5 .mul .ensures,
-      c6 .point .ensures,
-      one-point,
+      c6 .constant .ensures,
+      one-constant,
     )
 
 pub q-of-spec : {M : Type 1} → statement M

@@ -1,4 +1,4 @@
-use Rattle.range.proofs.Points.{one-point}
+use Rattle.range.proofs.Constants.{one-constant}
 use Rattle.uvtheory.specs.Wca.HardSphere as F
 use Rattle.uvtheory_range_wca.proofs.hard_sphere.rm_of.Statement.{statement}
 use Rattle.uvtheory_range_wca.proofs.hard_sphere.rm_of.Tie as tie
@@ -12,7 +12,7 @@ returns c =
       c1 .div2 .ensures,
       c2 .sub .ensures,
       c3 .div .ensures,
-      one-point,
+      one-constant,
     )
 
 pub rm-of-spec : {M : Type 1} → statement M

@@ -8,7 +8,7 @@ returns c =
     let c1 = c .before in let c2 = c1 .before in let c3 = c2 .before in
     rw (
       c .mul .ensures,
-      c1 .point .ensures,
+      c1 .constant .ensures,
       c2 .div .ensures,
       c3 .add .ensures,
     )

@@ -1,4 +1,4 @@
-use Rattle.range.proofs.Points.{one-point}
+use Rattle.range.proofs.Constants.{one-constant}
 use Rattle.uvtheory_range_wca.proofs.reference_perturbation.contact_value.Statement.{statement}
 use Rattle.uvtheory_range_wca.proofs.reference_perturbation.contact_value.Tie as tie
 
@@ -11,9 +11,9 @@ returns c =
       c2 .add2 .ensures,
       c3 .add .ensures,
       c4 .mul .ensures,
-      c5 .point .ensures,
+      c5 .constant .ensures,
       c6 .neg .ensures,
-      one-point,
+      one-constant,
     )
 
 pub contact-value-spec : {M : Type 1} → statement M

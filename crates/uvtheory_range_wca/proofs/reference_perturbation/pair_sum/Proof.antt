@@ -1,18 +1,18 @@
 use Prim.Native.Nat.{_≤_, _-_, _*_, _/_, _%_}
-use mathlib.Core.Path.{_≡_, sym}
+use mathlib.Core.Path.{_≡_, refl, sym}
 use native.Mathlib.Omega.{arith}
 use Rattle.arithmetic.specs.Arithmetic.{sumBy}
-use Rattle.range.specs.Rules.{rules, sqrt, ranges}
-use Rattle.range.proofs.Points.{zero-point}
+use Rattle.range.specs.Rules.{ranges}
+use Rattle.range.proofs.Constants.{zero-constant}
 use Rattle.uvtheory.specs.Tables.{table}
 use Rattle.uvtheory.specs.Wca.ReferencePerturbation as F
 use Rattle.uvtheory.proofs.Loops.{sum-step, at-pair, Bounds, pair-within, square-fits}
-use Rattle.uvtheory_range.specs.Rows.{points, row, matrix}
+use Rattle.uvtheory_range.specs.Rows.{row, matrix}
 use Rattle.uvtheory_range_wca.proofs.reference_perturbation.pair_sum.Statement.{statement}
 use Rattle.uvtheory_range_wca.proofs.reference_perturbation.pair_sum.Tie as tie
 
 abbrev Inv-loop : tie.InvT-loop
-Inv-loop ta tb n x rm d length eta q sigma-ij rep-ij sum₀ k₀ sum k = (k ≤ n * n) × (sum ≡ ranges .sum k (λ l. F.term-ij ranges (table ta) (table tb) (points x) (row rm) (row d) (row length) (matrix n q) (matrix n sigma-ij) (matrix n rep-ij) eta (l / n) (l % n)))
+Inv-loop ta tb n x rm d length eta q sigma-ij rep-ij sum₀ k₀ sum k = (k ≤ n * n) × (sum ≡ ranges .sum k (λ l. F.term-ij ranges (table ta) (table tb) (row x) (row rm) (row d) (row length) (matrix n q) (matrix n sigma-ij) (matrix n rep-ij) eta (l / n) (l % n)))
 
 abbrev μ-loop : tie.MeasureT-loop
 μ-loop ta tb n x rm d length eta q sigma-ij rep-ij sum₀ k₀ sum k = n * n - k
@@ -23,14 +23,14 @@ inside c = pair-within (c .before .before .args .n) (c .before .loop .k) (c .bef
 
 loop-holds : tie.Need-loop-holds Inv-loop μ-loop
 unfolding sumBy
-loop-holds c = (omega arith, sym zero-point)
+loop-holds c = (omega arith, sym zero-constant)
 
 loop-again : tie.Need-loop-again Inv-loop μ-loop
 loop-again c =
     let two = c .before .before .before .before .before in
     let one = two .before in (
       omega arith,
-      rw (c .add .ensures, c .before .term-of .ensures, two .component-of2 .ensures, one .component-of .ensures, one .before .before .loop .inv .1, sum-step rules sqrt, at-pair),
+      rw (c .add .ensures, c .before .term-of .ensures, two .component-of2 .ensures, one .component-of .ensures, one .before .before .loop .inv .1, sum-step ranges (λ n f. refl), at-pair),
     )
 
 returns : tie.Need-returns Inv-loop μ-loop

@@ -17,7 +17,7 @@ returns c =
       c6 .packing-fraction-b .ensures,
       c7 .packing-fraction-a .ensures,
       c8 .tau .ensures,
-      c9 .point .ensures,
+      c9 .constant .ensures,
     )
 
 pub term-of-spec : {M : Type 1} → statement M

@@ -1,8 +1,7 @@
-use mathlib.Core.Path.{_∙_}
+use mathlib.Core.Path.{refl, _∙_}
 use Prim.Native.Nat.{ℕ, _*_, _/_, _%_}
 use lib.Ieee.{Float, nan}
-use Rattle.arithmetic.specs.Root as Root
-use Rattle.arithmetic.specs.Doubles.{plain, guarded}
+use Rattle.arithmetic.specs.Doubles.{guarded}
 use Rattle.uvtheory.specs.Tables.{table}
 use Rattle.uvtheory.specs.Rows.{row, matrix, parameters}
 use Rattle.uvtheory.specs.PackingFraction as P
@@ -33,7 +32,7 @@ returns c =
     let eta = P.packing-fraction guarded n (row (s .«partial_density»)) d in
     let ta = table (start .args .ta) in
     let tb = table (start .args .tb) in
-    let pairs = sum-ext plain Root.sqrt (n * n)
+    let pairs = sum-ext guarded (λ n f. refl) (n * n)
     (λ k. F.term-ij guarded ta tb x (row (r .rm)) (row (r .d)) (row (r .length)) (matrix n (start .args .l .q)) (matrix n (a .«sigma_ij»)) (matrix n (a .«rep_ij»)) eta (k / n) (k % n))
     (λ k. F.term-ij guarded ta tb x rm d length q (p .sigma-ij) (p .rep-ij) eta (k / n) (k % n))
     (λ k l.
@@ -50,7 +49,7 @@ returns c =
       rows .length-are (k / n) i,
       rows .length-are (k % n) j,
     )) in
-    c .energy .ensures ∙ rw (c .before .pair-sum .ensures, c .before .before .before .before .before .before .before .before .before .packing-fraction .ensures, packing-fraction-of plain Root.sqrt nan n (row (s .«partial_density»)) (r .d) d (rows .d-are), pairs, start .pre .1)
+    c .energy .ensures ∙ rw (c .before .pair-sum .ensures, c .before .before .before .before .before .before .before .before .before .packing-fraction .ensures, packing-fraction-of guarded (λ n f. refl) nan n (row (s .«partial_density»)) (r .d) d (rows .d-are), pairs, start .pre .1)
 
 pub helmholtz-energy-density-spec : {M : Type 1} → statement M
 helmholtz-energy-density-spec = tie.close (tie.spec (λ c κs. c .before .before .before .before .before .before .before .before .before .before .pre .0 .0) (λ c κs. c .before .before .before .before .before .before .before .before .before .before .before .before .before .before .before .before .before .before .pre .0 .0) (λ c κs. tt) returns)

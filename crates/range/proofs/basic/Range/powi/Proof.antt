@@ -6,7 +6,7 @@ use native.Mathlib.Numerals.{add-one}
 use Rattle.arithmetic.specs.Arithmetic.{powerBy}
 use Rattle.range.specs.declared.basic.Range.{Range}
 use Rattle.range.specs.Rules.{ranges, mul}
-use Rattle.range.proofs.Points.{one-point}
+use Rattle.range.proofs.Constants.{one-constant}
 use Rattle.range.proofs.basic.Range.powi.Statement.{statement}
 use Rattle.range.proofs.basic.Range.powi.Tie as tie
 
@@ -26,7 +26,7 @@ abbrev μ-loop : tie.MeasureT-loop
 
 returns : tie.Need-returns Inv-loop μ-loop
 unfolding powerBy
-returns c = rw (c .if1 .taken, one-point)
+returns c = rw (c .if1 .taken, one-constant)
 
 loop-holds : tie.Need-loop-holds Inv-loop μ-loop
 unfolding powerBy
