@@ -1,0 +1,8 @@
+-- The laws of the rules.
+pub mod Nan
+pub mod Points
+pub mod Cases
+pub mod Values
+pub mod Agreement
+pub mod Failures
+pub mod Rows

@@ -1,0 +1,2 @@
+-- The rules of M-100 for values with slopes.
+pub mod Rules
