@@ -1,4 +1,4 @@
--- The operations of ranges by number, for callers that pass numbers only (src/ranges.rt).
+-- The operations of a meaning by number, for callers that pass numbers only (src/ranges.rt, src/duals.rt).
 use Prim.Native.Nat.{ℕ}
 use mathlib.Core.Bool.{cond}
 use mathlib.Core.List.{List, [], _∷_}
@@ -6,36 +6,48 @@ use lib.ListN.{getD}
 use lib.Ieee.{Float}
 use lib.Ieee.Scale.{finite}
 use Rattle.arithmetic.specs.Basic.{above}
+use Rattle.arithmetic.specs.Arithmetic.{Arithmetic}
 use Rattle.range.specs.declared.basic.Range.{Range}
-use Rattle.range.specs.Rules.{failed, rules, ranges}
+use Rattle.range.specs.Rules.{rules, ranges}
+use Rattle.range.specs.Rules as Range
+use Rattle.dual.specs.declared.basic.Dual.{Dual}
+use Rattle.dual.specs.Rules.{guardedSlopes}
+use Rattle.dual.specs.Rules as Dual
 
--- a where the whole of it is below t, b where none of it is; a limit must be finite
-abbrev pub whereBelow : Float → Range → Range → Range
-whereBelow t a b = cond (finite t) (ranges .ifBelow a t a b) failed
+module _ (A : Arithmetic) (failed : A .Value) where
+  -- a where it is below t, else b; a limit must be finite
+  abbrev pub whereBelow : Float → A .Value → A .Value → A .Value
+  whereBelow t a b = cond (finite t) (A .ifBelow a t a b) failed
 
--- a where the whole of it is above t, b where none of it is
+  -- each operation of a, and of b where it takes two, then those of this meaning alone; k is the exponent of powi
+  abbrev pub operations : ℕ → Float → A .Value → A .Value → List (A .Value) → List (A .Value)
+  operations k t a b others =
+      A .neg a
+      ∷ A .add a b
+      ∷ A .sub a b
+      ∷ A .mul a b
+      ∷ A .div a b
+      ∷ A .powi a k
+      ∷ A .sqrt a
+      ∷ A .ln a
+      ∷ A .ln1p a
+      ∷ A .exp a
+      ∷ A .powf a b
+      ∷ A .tanh a
+      ∷ whereBelow t a b
+      ∷ others
+
+  -- the operation that op numbers, from 0 on; any other number has no rule
+  unfoldable pub applied : ℕ → ℕ → Float → A .Value → A .Value → List (A .Value) → A .Value
+  applied op k t a b others = getD (operations k t a b others) op failed
+
+-- ---- ranges have the other case too: a where the whole of it is above t, b where none of it is
 abbrev pub whereAbove : Float → Range → Range → Range
-whereAbove t a b = cond (finite t) (rules .test (above t) a a b) failed
+whereAbove t a b = cond (finite t) (rules .test (above t) a a b) Range.failed
 
--- each operation of a, and of b where it takes two ranges; k is the exponent of powi
-abbrev pub operations : ℕ → Float → Range → Range → List Range
-operations k t a b =
-    ranges .neg a
-    ∷ ranges .add a b
-    ∷ ranges .sub a b
-    ∷ ranges .mul a b
-    ∷ ranges .div a b
-    ∷ ranges .powi a k
-    ∷ ranges .sqrt a
-    ∷ ranges .ln a
-    ∷ ranges .ln1p a
-    ∷ ranges .exp a
-    ∷ ranges .powf a b
-    ∷ ranges .tanh a
-    ∷ whereBelow t a b
-    ∷ whereAbove t a b
-    ∷ []
+abbrev pub ofRanges : ℕ → ℕ → Float → Range → Range → Range
+ofRanges op k t a b = applied ranges Range.failed op k t a b (whereAbove t a b ∷ [])
 
--- the operation that op numbers, from 0 on; any other number has no rule
-unfoldable pub applied : ℕ → ℕ → Float → Range → Range → Range
-applied op k t a b = getD (operations k t a b) op failed
+-- ---- values with slopes
+abbrev pub ofDuals : ℕ → ℕ → Float → Dual → Dual → Dual
+ofDuals op k t a b = applied guardedSlopes Dual.failed op k t a b []

@@ -1,2 +1,2 @@
--- The operations of ranges by number.
+-- The operations by number.
 pub mod Applied

@@ -9,11 +9,12 @@ use range_elementary::logarithm::ln;
 use range_elementary::logarithm::ln_1p;
 ghost use mathlib.Core.Path.{_≡_};
 ghost use Rattle.range.specs.Rules as Rules;
-ghost use Rattle.measured.specs.Applied.{applied, whereBelow, whereAbove};
+ghost use Rattle.range.specs.Rules.{ranges};
+ghost use Rattle.measured.specs.Applied.{whereBelow, whereAbove, ofRanges};
 
 // a where the whole of it is below t, b where none of it is.
 fn where_below(t: f64, a: Range, b: Range) -> Range
-    ensures { λ r. ⌜ r ≡ whereBelow t a b ⌝ }
+    ensures { λ r. ⌜ r ≡ whereBelow ranges Rules.failed t a b ⌝ }
 {
     if is_finite(t) {
         return a.if_below(t, a, b);
@@ -33,7 +34,7 @@ fn where_above(t: f64, a: Range, b: Range) -> Range
 
 // The operation that op numbers, of a, and of b where it takes two ranges. The exponent of powi is k; t is the limit of the last two.
 fn apply(op: u64, k: u64, t: f64, a: Range, b: Range) -> Range
-    ensures { λ r. ⌜ r ≡ applied op k t a b ⌝ }
+    ensures { λ r. ⌜ r ≡ ofRanges op k t a b ⌝ }
 {
     match op {
         0 => a.neg(),
@@ -64,7 +65,7 @@ pub extern "C" fn noddyfir_range_lower(
     b_lower: f64,
     b_upper: f64,
 ) -> f64
-    ensures { λ r. ⌜ r ≡ applied op k t (Rules.range «a_lower» «a_upper») (Rules.range «b_lower» «b_upper») .lower ⌝ }
+    ensures { λ r. ⌜ r ≡ ofRanges op k t (Rules.range «a_lower» «a_upper») (Rules.range «b_lower» «b_upper») .lower ⌝ }
 {
     let a = Range {
         lower: a_lower,
@@ -88,7 +89,7 @@ pub extern "C" fn noddyfir_range_upper(
     b_lower: f64,
     b_upper: f64,
 ) -> f64
-    ensures { λ r. ⌜ r ≡ applied op k t (Rules.range «a_lower» «a_upper») (Rules.range «b_lower» «b_upper») .upper ⌝ }
+    ensures { λ r. ⌜ r ≡ ofRanges op k t (Rules.range «a_lower» «a_upper») (Rules.range «b_lower» «b_upper») .upper ⌝ }
 {
     let a = Range {
         lower: a_lower,

@@ -1,10 +1,12 @@
 -- Each arm of the match is a row of the table `operations`; past its last row there is none.
-use Prim.Native.Nat.{ℕ, suc, _≤_}
+use Prim.Native.Nat.{_≤_}
 use native.Mathlib.Omega.{arith}
-use mathlib.Core.Path.{_≡_, _∙_, sym}
+use mathlib.Core.Path.{_∙_, sym}
+use mathlib.Core.List.{[], _∷_}
 use lib.ListN.{List·getD-eq-default}
-use Rattle.range.specs.Rules.{failed}
-use Rattle.measured.specs.Applied.{operations, applied}
+use Rattle.range.specs.Rules.{failed, ranges}
+use Rattle.measured.specs.Applied.{operations, applied, whereAbove}
+use Rattle.measured.proofs.Past.{past}
 use Rattle.measured.proofs.ranges.apply.Statement.{statement}
 use Rattle.measured.proofs.ranges.apply.Tie as tie
 
@@ -64,16 +66,15 @@ returns-14 : tie.Need-returns-14
 unfolding applied
 returns-14 c = rw (c .before .match .keys14) (c .where-above .ensures)
 
-past : {n op : ℕ} → (op ≡ n → ⊥) → n ≤ op → suc n ≤ op
-past e h = omega arith
-
 returns-15 : tie.Need-returns-15
 unfolding applied
 returns-15 c =
     let a = c .before .before .args in
     let r = c .before .match .rest in
-    let h : 14 ≤ a .op = past (r .1) (past (r .0 .1) (past (r .0 .0 .1) (past (r .0 .0 .0 .1) (past (r .0 .0 .0 .0 .1) (past (r .0 .0 .0 .0 .0 .1) (past (r .0 .0 .0 .0 .0 .0 .1) (past (r .0 .0 .0 .0 .0 .0 .0 .1) (past (r .0 .0 .0 .0 .0 .0 .0 .0 .1) (past (r .0 .0 .0 .0 .0 .0 .0 .0 .0 .1) (past (r .0 .0 .0 .0 .0 .0 .0 .0 .0 .0 .1) (past (r .0 .0 .0 .0 .0 .0 .0 .0 .0 .0 .0 .1) (past (r .0 .0 .0 .0 .0 .0 .0 .0 .0 .0 .0 .0 .1) (past (r .0 .0 .0 .0 .0 .0 .0 .0 .0 .0 .0 .0 .0 .1) (omega arith)))))))))))))) in
-    c .failed .ensures ∙ sym (List·getD-eq-default (operations (a .k) (a .t) (a .a) (a .b)) failed {n = a .op} h)
+    let q = r .0 .0 .0 .0 .0 .0 .0 in
+    let half : 7 ≤ a .op = past (q .1) (past (q .0 .1) (past (q .0 .0 .1) (past (q .0 .0 .0 .1) (past (q .0 .0 .0 .0 .1) (past (q .0 .0 .0 .0 .0 .1) (past (q .0 .0 .0 .0 .0 .0 .1) (omega arith))))))) in
+    let h : 14 ≤ a .op = past (r .1) (past (r .0 .1) (past (r .0 .0 .1) (past (r .0 .0 .0 .1) (past (r .0 .0 .0 .0 .1) (past (r .0 .0 .0 .0 .0 .1) (past (r .0 .0 .0 .0 .0 .0 .1) half)))))) in
+    c .failed .ensures ∙ sym (List·getD-eq-default (operations ranges failed (a .k) (a .t) (a .a) (a .b) (whereAbove (a .t) (a .a) (a .b) ∷ [])) failed {n = a .op} h)
 
 pub apply-spec : {M : Type 1} → statement M
 apply-spec = tie.close (tie.spec (λ c κs. tt) (λ c κs. tt) (λ c κs. tt) (λ c κs. tt) (λ c κs. tt) (λ c κs. tt) (λ c κs. tt) (λ c κs. tt) (λ c κs. tt) (λ c κs. tt) (λ c κs. tt) (λ c κs. tt) (λ c κs. tt) (λ c κs. tt) (λ c κs. tt) returns returns-2 returns-3 returns-4 returns-5 returns-6 returns-7 returns-8 returns-9 returns-10 returns-11 returns-12 returns-13 returns-14 returns-15)

@@ -1,0 +1,2 @@
+-- Numbers past the last row of a table.
+pub mod Past
