@@ -17,7 +17,7 @@ use Rattle.arithmetic.proofs.Both.{Kept}
 use Rattle.arithmetic.proofs.Agreement as Values
 use Rattle.dual.specs.declared.basic.Dual.{Dual}
 use Rattle.dual.specs.Rules as Rules
-use Rattle.dual.specs.Rules.{dual, failed, strict, plain, slopes, guardedSlopes}
+use Rattle.dual.specs.Rules.{dual, failed, ok, strict, plain, slopes, guardedSlopes}
 use Rattle.dual.proofs.Nan.{either-nan, add-nan, sub-nan, mul-nan, div-nan}
 
 -- what is not finite is NaN, and a slope with its value
@@ -31,7 +31,7 @@ pub record Same (g d : Dual) : Type 0 where
 same : {g d : Dual} → checkedDual g ≡ d → Same g d
 same e = record { is = e }
 
--- so a value that is not finite fails both halves
+-- So a value that is not finite fails both halves,
 pub fails-both : {g d : Dual} → Same g d → (T (finite (d .value)) → ⊥) → d ≡ failed
 fails-both {g} p h = sym (p .is) ∙ go (g .value) (g .slope) (λ f. h (subst (λ (x : Dual). T (finite (x .value))) (p .is) f))
   where
@@ -39,6 +39,28 @@ fails-both {g} p h = sym (p .is) ∙ go (g .value) (g .slope) (λ f. h (subst (�
     go nan s k = refl
     go (inf t) s k = refl
     go (fin t m e) s k = absurd (k tt)
+
+-- the code's halves are both finite where the strict ones are,
+pub ok-kept : {g d : Dual} → Same g d → ok g ≡ ok d
+ok-kept {g} p = go (g .value) (g .slope) ∙ ap ok (p .is)
+  where
+    go : (v s : Float) → ok (dual v s) ≡ ok (checkedDual (dual v s))
+    go nan s = refl
+    go (inf t) s = refl
+    go (fin t m e) nan = refl
+    go (fin t m e) (inf u) = refl
+    go (fin t m e) (fin u n d) = refl
+
+-- and then they are the strict ones.
+pub in-code : {g d : Dual} → Same g d → T (ok g) → g ≡ d
+in-code {g} p h = go (g .value) (g .slope) h ∙ p .is
+  where
+    go : (v s : Float) → T (ok (dual v s)) → dual v s ≡ checkedDual (dual v s)
+    go nan s k = absurd k
+    go (inf t) s k = absurd k
+    go (fin t m e) nan k = absurd k
+    go (fin t m e) (inf u) k = absurd k
+    go (fin t m e) (fin u n d) k = refl
 
 -- ---- doubles that are alike once checked
 record Alike (x y : Float) : Type 0 where
