@@ -80,14 +80,17 @@ static int has_no_excess_precision(void)
 
 static int known_case_holds(void)
 {
-    uint8_t record[KNOWN_SIZE], energies[NODDYFIR_ENERGIES_SIZE], ends[NODDYFIR_ENDS_SIZE];
+    uint8_t record[KNOWN_SIZE];
+    uint8_t energies[NODDYFIR_ENERGIES_SIZE], ends[NODDYFIR_ENDS_SIZE], slopes[NODDYFIR_SLOPES_SIZE];
     memcpy(record, KNOWN_RECORD, KNOWN_SIZE);
     for (uint8_t perturbation = 0; perturbation < 3; perturbation++) {
         record[3] = perturbation;
         noddyfir_energies(record, KNOWN_SIZE, energies, sizeof energies);
         noddyfir_ends(record, KNOWN_SIZE, ends, sizeof ends);
+        noddyfir_slopes(record, KNOWN_SIZE, slopes, sizeof slopes);
         if (memcmp(energies, KNOWN_ENERGIES[perturbation], sizeof energies) != 0
-            || memcmp(ends, KNOWN_ENDS[perturbation], sizeof ends) != 0)
+            || memcmp(ends, KNOWN_ENDS[perturbation], sizeof ends) != 0
+            || memcmp(slopes, KNOWN_SLOPES[perturbation], sizeof slopes) != 0)
             return 0;
     }
     return 1;

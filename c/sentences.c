@@ -4,7 +4,7 @@
 /* written by tools/codes from docs/codes.txt */
 static const char *const CODES[] = {
     "Accepted.",
-    "The answer buffer is too short: energies need 28 bytes, ends 52.",
+    "The answer buffer is too short: energies need 28 bytes, ends and slopes 52.",
     "The record has under 5 bytes, or its length field is not the number of bytes that follow it.",
     "The version of the record is not 1.",
     "The perturbation is none of 0 (BH), 1 (WCA) and 2 (WCA-B3).",
@@ -17,6 +17,7 @@ static const char *const CODES[] = {
     "A value on the way is not a finite number, or a function has no rule for its argument.",
     "The energies have no ends: on the way, a range holds numbers that take different cases of one rule, or a rule has "
     "no result for it.",
+    "The energies have no slopes: on the way, a slope is not a finite number.",
 };
 /* end of the codes */
 

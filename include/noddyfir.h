@@ -1,5 +1,5 @@
 /*
- * Noddyfir: residual Helmholtz energies of Mie mixtures by uv-theory, and ends that enclose them.
+ * Noddyfir: residual Helmholtz energies of Mie mixtures by uv-theory, ends that enclose them, and their slopes.
  *
  * For x86-64 with the System V calling convention (Linux). `./library` writes target/lib/libnoddyfir.a; link with
  *
@@ -21,8 +21,9 @@
  *     n         doubles: partial densities (molecules per cubic angstrom)
  *     n         doubles: mole fractions
  *
- * An answer: 2 bytes of length, 1 byte of version (1), 1 byte of code. Code 0 is followed by three doubles (energies)
- * or three pairs lower, upper (ends): hard sphere, reference, attractive, each divided by kT, per cubic angstrom.
+ * An answer: 2 bytes of length, 1 byte of version (1), 1 byte of code. Code 0 is followed by three doubles (energies),
+ * three pairs lower, upper (ends) or three pairs value, slope (slopes): hard sphere, reference, attractive, each divided
+ * by kT, per cubic angstrom. A slope is an energy's change for that of the total density: divided by kT, per molecule.
  * Any other code is a refusal of four bytes, also one that is not listed below: a later library may have more of them.
  */
 #ifndef NODDYFIR_H
@@ -38,6 +39,7 @@ extern "C" {
 /* The bytes of an answer with code 0, which an answer buffer must have room for; of a refusal; of the longest record. */
 #define NODDYFIR_ENERGIES_SIZE 28
 #define NODDYFIR_ENDS_SIZE 52
+#define NODDYFIR_SLOPES_SIZE 52
 #define NODDYFIR_REFUSAL_SIZE 4
 #define NODDYFIR_RECORD_SIZE_MAX 621
 #define NODDYFIR_SUBSTANCES_MAX 8
@@ -69,9 +71,11 @@ enum noddyfir_code {
     /* a value is not finite, or a function has no rule for its argument */
     NODDYFIR_ARITHMETIC = 9,
     /* a range rule fails, so there are energies and no ends; from the calls for ends only */
-    NODDYFIR_ENDS = 10
+    NODDYFIR_ENDS = 10,
+    /* a slope is not finite, so there are energies and no slopes; from the calls for slopes only */
+    NODDYFIR_SLOPES = 11
 };
-#define NODDYFIR_CODE_MAX 10
+#define NODDYFIR_CODE_MAX 11
 /* end of the codes */
 
 /*
@@ -89,10 +93,24 @@ uint8_t noddyfir_energies(const uint8_t *record, size_t record_size, uint8_t *an
  */
 uint8_t noddyfir_ends(const uint8_t *record, size_t record_size, uint8_t *answer, size_t answer_size);
 
+/*
+ * Writes the answer of slopes to one record at the start of `answer` and returns its code.
+ * Under 52 bytes of answer it returns 1 and writes nothing. Bytes past the answer are untouched.
+ * Proved: each value is that of the energies call, bit for bit, and each slope is what the rules of differentiation
+ * give in doubles, every operation rounded once. Slopes have no ends: how far rounding has moved them is not proved.
+ *
+ * The slope is along the total density, at fixed temperature and fractions: each partial density moves by its own
+ * fraction. So the pressure is k * T * (d + d * s - v), with the temperature T, the sum d of the densities, s of the
+ * slopes and v of the values, and k = 138.0649 bar cubic angstrom per kelvin; k * T * d is the part of the ideal gas.
+ * examples/pressure.c works it. This takes densities that are the fractions times d. Others are answered as sent, by
+ * the slope of densities that move along the fractions; it gives no pressure.
+ */
+uint8_t noddyfir_slopes(const uint8_t *record, size_t record_size, uint8_t *answer, size_t answer_size);
+
 /* Why a run stopped. */
 enum noddyfir_reason {
     NODDYFIR_USED_UP = 0, /* all records are answered */
-    NODDYFIR_NO_ROOM = 1, /* under 28 (energies) or 52 (ends) bytes are left for answers; call again from here */
+    NODDYFIR_NO_ROOM = 1, /* under 28 (energies) or 52 (ends, slopes) bytes are left for answers; call again from here */
     NODDYFIR_BROKEN = 2   /* under 2 bytes are left of the records, or a length reaches past their end */
 };
 
@@ -110,6 +128,7 @@ typedef struct noddyfir_run {
  */
 noddyfir_run noddyfir_run_energies(const uint8_t *records, size_t records_size, uint8_t *answers, size_t answers_size);
 noddyfir_run noddyfir_run_ends(const uint8_t *records, size_t records_size, uint8_t *answers, size_t answers_size);
+noddyfir_run noddyfir_run_slopes(const uint8_t *records, size_t records_size, uint8_t *answers, size_t answers_size);
 
 /* ---- not proved: c/self_check.c and c/sentences.c */
 
@@ -124,9 +143,9 @@ enum noddyfir_fault {
 };
 
 /*
- * Looks at the mode of the processor's arithmetic, does a few operations whose results are known, and calls energies
- * and ends for a known case of each perturbation; it takes under a millisecond. The proof assumes the default mode:
- * rounding to nearest, subnormal numbers kept, no traps. A library that is linked with fast-math changes it for the
+ * Looks at the mode of the processor's arithmetic, does a few operations whose results are known, and calls energies,
+ * ends and slopes for a known case of each perturbation; it takes under a millisecond. The proof assumes the default
+ * mode: rounding to nearest, subnormal numbers kept, no traps. A library that is linked with fast-math changes it for the
  * whole program. The mode belongs to a thread and can change: call this once in each thread before the first use, and
  * again after loading a library. On any other answer than 0, do not use the values.
  */

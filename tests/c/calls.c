@@ -1,5 +1,6 @@
 /* The calls for C: codes, bytes that stay untouched, runs, and the self-check in every mode of the processor. */
 #include "noddyfir.h"
+#include "../../c/known_case.h"
 #include <stdio.h>
 #include <string.h>
 #include <xmmintrin.h>
@@ -55,10 +56,31 @@ static void single(void)
     memset(answer, 7, ROOM);
     expect(noddyfir_energies(NONE, 5, answer, 27) == NODDYFIR_ANSWER_BUFFER, "27 bytes for energies");
     expect(noddyfir_ends(NONE, 5, answer, 51) == NODDYFIR_ANSWER_BUFFER, "51 bytes for ends");
+    expect(noddyfir_slopes(NONE, 5, answer, 51) == NODDYFIR_ANSWER_BUFFER, "51 bytes for slopes");
     expect(untouched(answer, 0), "nothing is written for code 1");
     expect(noddyfir_energies(SHORT, 1, answer, 28) == NODDYFIR_ENVELOPE, "a short record");
     expect(noddyfir_ends(NONE, 5, answer, 52) == NODDYFIR_COMPONENTS, "no substance");
     expect(memcmp(answer, REFUSED, 4) == 0 && untouched(answer, 4), "a refusal has four bytes");
+    memset(answer, 7, ROOM);
+    expect(noddyfir_slopes(NONE, 5, answer, 52) == NODDYFIR_COMPONENTS, "no substance, for slopes");
+    expect(memcmp(answer, REFUSED, 4) == 0 && untouched(answer, 4), "a refusal of slopes has four bytes");
+}
+
+/* Slopes of the known case, whose values are its energies. */
+static void slopes(void)
+{
+    static const uint8_t HEAD[4] = {0, 50, 1, 0};
+    uint8_t record[KNOWN_SIZE], answer[ROOM];
+    memcpy(record, KNOWN_RECORD, KNOWN_SIZE);
+    for (uint8_t perturbation = 0; perturbation < 3; perturbation++) {
+        record[3] = perturbation;
+        memset(answer, 7, ROOM);
+        expect(noddyfir_slopes(record, KNOWN_SIZE, answer, ROOM) == NODDYFIR_ACCEPTED, "slopes of a known case");
+        expect(memcmp(answer, HEAD, 4) == 0, "the head of an answer of slopes");
+        expect(untouched(answer, NODDYFIR_SLOPES_SIZE), "bytes past the slopes");
+        for (int i = 0; i < 3; i++)
+            expect(memcmp(answer + 4 + 16 * i, KNOWN_ENERGIES[perturbation] + 4 + 8 * i, 8) == 0, "a value is the energy");
+    }
 }
 
 static void runs(void)
@@ -76,6 +98,28 @@ static void runs(void)
     expect(run.records == 1 && run.read == 2 && run.written == 4 && run.reason == NODDYFIR_BROKEN, "a broken tail");
 }
 
+static void runs_of_slopes(void)
+{
+    static const uint8_t TWO[7] = {0, 0, 0, 3, 1, 0, 0}, ANSWERS[8] = {0, 2, 1, 2, 0, 2, 1, 5};
+    uint8_t records[KNOWN_SIZE + 7], answers[ROOM], single[NODDYFIR_SLOPES_SIZE];
+    noddyfir_run run;
+    memset(answers, 7, ROOM);
+    run = noddyfir_run_slopes(TWO, 7, answers, ROOM);
+    expect(run.records == 2 && run.read == 7 && run.written == 8 && run.reason == NODDYFIR_USED_UP, "a run of slopes");
+    expect(memcmp(answers, ANSWERS, 8) == 0 && untouched(answers, 8), "the answers of a run of slopes");
+    /* A known case takes 52 bytes; then a refusal has no room, though it would take four. */
+    memcpy(records, KNOWN_RECORD, KNOWN_SIZE);
+    memcpy(records + KNOWN_SIZE, TWO, 7);
+    memset(answers, 7, ROOM);
+    run = noddyfir_run_slopes(records, sizeof records, answers, ROOM);
+    expect(run.records == 1 && run.read == KNOWN_SIZE && run.written == 52, "slopes up to the end of the room");
+    expect(run.reason == NODDYFIR_NO_ROOM && untouched(answers, 52), "no room for slopes");
+    noddyfir_slopes(KNOWN_RECORD, KNOWN_SIZE, single, sizeof single);
+    expect(memcmp(answers, single, sizeof single) == 0, "a run has the answers of the single call");
+    run = noddyfir_run_slopes(records + run.read, 6, answers, ROOM);
+    expect(run.records == 1 && run.read == 2 && run.written == 4 && run.reason == NODDYFIR_BROKEN, "a broken tail of slopes");
+}
+
 static void sentences(void)
 {
     for (int code = 0; code <= NODDYFIR_CODE_MAX; code++)
@@ -91,7 +135,9 @@ int main(void)
 {
     modes();
     single();
+    slopes();
     runs();
+    runs_of_slopes();
     sentences();
     return failures != 0;
 }

@@ -30,6 +30,8 @@ pub enum Refusal {
     Arithmetic,
     /// Code 10: a range rule fails, so there are energies and no ends; from the calls for ends only.
     Ends,
+    /// Code 11: a slope is not finite, so there are energies and no slopes; from the calls for slopes only.
+    Slopes,
     // end of the codes
     /// Another code: the library is newer than this crate. Only code 0 is success.
     Unknown(u8),
@@ -40,7 +42,7 @@ pub enum Refusal {
 // By code, from 1 on; written by tools/codes from docs/codes.txt.
 #[rustfmt::skip]
 const CODES: &[(Refusal, &str)] = &[
-    (Refusal::AnswerBuffer, "The answer buffer is too short: energies need 28 bytes, ends 52."),
+    (Refusal::AnswerBuffer, "The answer buffer is too short: energies need 28 bytes, ends and slopes 52."),
     (Refusal::Envelope, "The record has under 5 bytes, or its length field is not the number of bytes that follow \
         it."),
     (Refusal::Version, "The version of the record is not 1."),
@@ -54,6 +56,7 @@ const CODES: &[(Refusal, &str)] = &[
     (Refusal::Arithmetic, "A value on the way is not a finite number, or a function has no rule for its argument."),
     (Refusal::Ends, "The energies have no ends: on the way, a range holds numbers that take different cases of one \
         rule, or a rule has no result for it."),
+    (Refusal::Slopes, "The energies have no slopes: on the way, a slope is not a finite number."),
 ];
 // end of the codes
 
