@@ -33,6 +33,7 @@ fn known_case(header: &Path) {
         ("RECORD", "[u8; 117]"),
         ("ENERGIES", "[[u8; ENERGIES_SIZE]; 3]"),
         ("ENDS", "[[u8; ENDS_SIZE]; 3]"),
+        ("SLOPES", "[[u8; SLOPES_SIZE]; 3]"),
     ]
     .map(|(name, kind)| format!("pub const {name}: {kind} = {};\n", table(&text, name)))
     .concat();

@@ -1,5 +1,5 @@
 use crate::Refusal;
-use crate::bytes::{ENDS_SIZE, ENERGIES_SIZE, REFUSAL_SIZE};
+use crate::bytes::{ENDS_SIZE, ENERGIES_SIZE, REFUSAL_SIZE, SLOPES_SIZE};
 
 /// The three energies, each divided by kT, per cubic ångström.
 #[derive(Clone, Copy, Debug, PartialEq)]
@@ -57,6 +57,38 @@ impl Ends {
     }
 }
 
+/// One energy and its slope along the total density.
+#[derive(Clone, Copy, Debug, PartialEq)]
+pub struct Sloped {
+    /// The energy divided by kT, per cubic ångström.
+    pub value: f64,
+    /// Its slope: divided by kT, per molecule.
+    pub slope: f64,
+}
+
+/// The three energies with their slopes along the total density, at fixed temperature and fractions.
+#[derive(Clone, Copy, Debug, PartialEq)]
+pub struct Slopes {
+    /// Of the hard spheres.
+    pub hard_sphere: Sloped,
+    /// Of the reference perturbation.
+    pub reference: Sloped,
+    /// Of the attractive perturbation.
+    pub attractive: Sloped,
+}
+
+impl Slopes {
+    /// In the order of an answer.
+    pub fn all(&self) -> [Sloped; 3] {
+        [self.hard_sphere, self.reference, self.attractive]
+    }
+
+    /// The values without the slopes: bit for bit the result of [`energies`](crate::energies).
+    pub fn energies(&self) -> Energies {
+        Energies::of(&self.all().map(|energy| energy.value))
+    }
+}
+
 /// What an answer with code 0 holds.
 pub(crate) trait Answer: Sized {
     /// The bytes of an answer with code 0.
@@ -82,6 +114,15 @@ impl Answer for Ends {
     }
 }
 
+impl Answer for Slopes {
+    const SIZE: usize = SLOPES_SIZE;
+
+    fn of(doubles: &[f64]) -> Self {
+        let sloped = |i: usize| Sloped { value: doubles[2 * i], slope: doubles[2 * i + 1] };
+        Self { hard_sphere: sloped(0), reference: sloped(1), attractive: sloped(2) }
+    }
+}
+
 /// Reads the answer at the start of the bytes, and says how many it has. Only code 0 is followed by doubles.
 pub(crate) fn read<A: Answer>(bytes: &[u8]) -> (Result<A, Refusal>, usize) {
     if let Some(refusal) = Refusal::from_code(bytes[3]) {
@@ -94,7 +135,7 @@ pub(crate) fn read<A: Answer>(bytes: &[u8]) -> (Result<A, Refusal>, usize) {
 
 #[cfg(test)]
 mod tests {
-    use super::{Answer, Ends, Energies, read};
+    use super::{Answer, Ends, Energies, Slopes, read};
     use crate::{Refusal, known};
     use std::fmt::Debug;
 
@@ -111,8 +152,9 @@ mod tests {
     }
 
     #[test]
-    fn bytes_behind_a_refusal_are_no_energies_and_no_ends() {
+    fn bytes_behind_a_refusal_are_no_energies_no_ends_and_no_slopes() {
         only_code_0_is_success::<Energies>(&known::ENERGIES[0]);
         only_code_0_is_success::<Ends>(&known::ENDS[0]);
+        only_code_0_is_success::<Slopes>(&known::SLOPES[0]);
     }
 }

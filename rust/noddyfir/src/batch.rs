@@ -2,7 +2,7 @@
 
 use crate::answer::{Answer, read};
 use crate::bytes::{self, Run};
-use crate::{Case, Ends, Energies, Fault, Refusal};
+use crate::{Case, Ends, Energies, Fault, Refusal, Slopes};
 
 /// So many cases are sent at a time, to bound the memory.
 const PART: usize = 1024;
@@ -39,6 +39,20 @@ pub fn run_energies(cases: &[Case]) -> Vec<Result<Energies, Refusal>> {
 /// ```
 pub fn run_ends(cases: &[Case]) -> Vec<Result<Ends, Refusal>> {
     run(cases, bytes::run_ends)
+}
+
+/// The energies of many cases with their slopes, in their order: for each the result of [`slopes`](crate::slopes).
+///
+/// ```
+/// use noddyfir::{Case, Mixture, Perturbation, State, Substance, run_slopes, slopes};
+/// let mixture = Mixture::pure(Substance::new(12.65, 6.0, 3.74, 153.5));
+/// let state = State::with_density(301.0, 0.001, vec![1.0]);
+/// let case = Case::new(Perturbation::BarkerHenderson, mixture, state)?;
+/// assert_eq!(run_slopes(&[case.clone()]), [slopes(&case)]);
+/// # Ok::<(), noddyfir::Refusal>(())
+/// ```
+pub fn run_slopes(cases: &[Case]) -> Vec<Result<Slopes, Refusal>> {
+    run(cases, bytes::run_slopes)
 }
 
 type Call = fn(&[u8], &mut [u8]) -> Result<Run, Fault>;

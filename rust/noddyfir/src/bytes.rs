@@ -19,6 +19,8 @@ use crate::self_check::{Fault, ready};
 pub const ENERGIES_SIZE: usize = 28;
 /// The bytes of an answer with three pairs of ends.
 pub const ENDS_SIZE: usize = 52;
+/// The bytes of an answer with three pairs of an energy and its slope.
+pub const SLOPES_SIZE: usize = 52;
 /// The bytes of a refusal.
 pub const REFUSAL_SIZE: usize = 4;
 
@@ -27,7 +29,8 @@ pub const REFUSAL_SIZE: usize = 4;
 pub enum Reason {
     /// All records are answered.
     UsedUp,
-    /// Under [`ENERGIES_SIZE`] or [`ENDS_SIZE`] bytes are left for answers. Call again with the records from `read` on.
+    /// Under [`ENERGIES_SIZE`], [`ENDS_SIZE`] or [`SLOPES_SIZE`] bytes are left for answers. Call again with the records
+    /// from `read` on.
     NoRoom,
     /// Under 2 bytes are left of the records, or a length reaches past their end.
     Broken,
@@ -60,6 +63,13 @@ pub fn ends(record: &[u8], answer: &mut [u8]) -> Result<u8, Fault> {
     Ok(raw::ends(record, answer))
 }
 
+/// Writes the answer of slopes to one record at the start of `answer`, and returns its code. Under [`SLOPES_SIZE`] bytes
+/// of answer the code is 1 and nothing is written.
+pub fn slopes(record: &[u8], answer: &mut [u8]) -> Result<u8, Fault> {
+    ready()?;
+    Ok(raw::slopes(record, answer))
+}
+
 /// Answers records that stand one after the other by their energies. Each answer is written where the one before it
 /// ended; a refused record takes [`REFUSAL_SIZE`] bytes and the run goes on.
 pub fn run_energies(records: &[u8], answers: &mut [u8]) -> Result<Run, Fault> {
@@ -71,6 +81,12 @@ pub fn run_energies(records: &[u8], answers: &mut [u8]) -> Result<Run, Fault> {
 pub fn run_ends(records: &[u8], answers: &mut [u8]) -> Result<Run, Fault> {
     ready()?;
     Ok(raw::run_ends(records, answers).into())
+}
+
+/// Answers records that stand one after the other by their slopes, as [`run_energies`].
+pub fn run_slopes(records: &[u8], answers: &mut [u8]) -> Result<Run, Fault> {
+    ready()?;
+    Ok(raw::run_slopes(records, answers).into())
 }
 
 impl From<raw::Run> for Run {

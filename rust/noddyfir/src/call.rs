@@ -1,5 +1,5 @@
 use crate::answer::{Answer, read};
-use crate::{Case, Ends, Energies, Fault, Refusal, bytes};
+use crate::{Case, Ends, Energies, Fault, Refusal, Slopes, bytes};
 
 /// The energies of a case.
 ///
@@ -35,11 +35,37 @@ pub fn ends(case: &Case) -> Result<Ends, Refusal> {
     answer(case, bytes::ends)
 }
 
+/// The energies of a case with their slopes along the total density, at fixed temperature and fractions. The values are
+/// bit for bit those of [`energies`]; a slope is what the rules of differentiation give in doubles. Slopes have no ends.
+///
+/// The densities move along the fractions: each partial density starts with the slope of its own fraction. Where the
+/// densities are not the fractions times their sum, the slope is still that, from the densities as sent, and no longer
+/// along a line of fixed composition.
+///
+/// ```
+/// use noddyfir::{Case, Mixture, Perturbation, Refusal, State, Substance, energies, slopes};
+/// let mixture = Mixture::pure(Substance::new(12.65, 6.0, 3.74, 153.5));
+/// let case = |density| {
+///     let state = State::with_density(300.0, density, vec![1.0]);
+///     Case::new(Perturbation::WeeksChandlerAndersen, mixture.clone(), state)
+/// };
+/// let (sloped, step) = (slopes(&case(0.005)?)?, 1e-6);
+/// assert_eq!(sloped.energies(), energies(&case(0.005)?)?);
+/// // Nearly the quotient of two differences.
+/// let [above, below] = [energies(&case(0.005 + step)?)?, energies(&case(0.005 - step)?)?];
+/// let quotient = (above.attractive - below.attractive) / (2.0 * step);
+/// assert!((sloped.attractive.slope - quotient).abs() < 1e-8);
+/// # Ok::<(), Refusal>(())
+/// ```
+pub fn slopes(case: &Case) -> Result<Slopes, Refusal> {
+    answer(case, bytes::slopes)
+}
+
 fn answer<A: Answer>(
     case: &Case,
     call: fn(&[u8], &mut [u8]) -> Result<u8, Fault>,
 ) -> Result<A, Refusal> {
-    let mut answer = [0; bytes::ENDS_SIZE];
+    let mut answer = vec![0; A::SIZE];
     // By the code that is returned, since code 1 writes nothing.
     match Refusal::from_code(call(&case.record(), &mut answer)?) {
         Some(refusal) => Err(refusal),

@@ -1,10 +1,11 @@
-//! Residual Helmholtz energies of gas and liquid mixtures by uv-theory, and ends that enclose them.
+//! Residual Helmholtz energies of gas and liquid mixtures by uv-theory, ends that enclose them, and their slopes.
 //!
 //! The numbers come from a proved library; this crate gives it types. [`energies`] has three energies, each divided by
 //! kT, per cubic ångström. [`ends`] has for each a lower and an upper end. Proved, for every case that has ends: each
 //! energy lies between its ends, and so does what the same formulas give in fractions without any rounding, whichever
-//! fraction between its own ends each root takes. `docs/TRUST.md` says on what the proof rests; [`self_check`] tests
-//! what a host program can break by accident, and every call asks it.
+//! fraction between its own ends each root takes. [`slopes`] has the energies with their slopes along the total density;
+//! [`pressure`] is worked from these, outside the proof. `docs/TRUST.md` says on what the proof rests; [`self_check`]
+//! tests what a host program can break by accident, and every call asks it.
 //!
 //! ```
 //! use noddyfir::{Case, Mixture, Perturbation, State, Substance, ends, energies};
@@ -43,19 +44,21 @@ mod field;
 mod known;
 mod mixture;
 mod perturbation;
+mod pressure;
 #[allow(unsafe_code)]
 mod raw;
 mod refusal;
 mod self_check;
 mod state;
 
-pub use answer::{Ends, Energies, Range};
-pub use batch::{run_ends, run_energies};
-pub use call::{ends, energies};
+pub use answer::{Ends, Energies, Range, Sloped, Slopes};
+pub use batch::{run_ends, run_energies, run_slopes};
+pub use call::{ends, energies, slopes};
 pub use case::Case;
 pub use field::{Field, FieldAtFault};
 pub use mixture::{MAX_SUBSTANCES, Mixture, Substance};
 pub use perturbation::Perturbation;
+pub use pressure::{Pressure, pressure};
 pub use refusal::Refusal;
 pub use self_check::{Fault, self_check};
 pub use state::State;

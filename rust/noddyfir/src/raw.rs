@@ -16,9 +16,11 @@ pub struct Run {
 unsafe extern "C" {
     fn noddyfir_energies(record: *const u8, size: usize, answer: *mut u8, room: usize) -> u8;
     fn noddyfir_ends(record: *const u8, size: usize, answer: *mut u8, room: usize) -> u8;
+    fn noddyfir_slopes(record: *const u8, size: usize, answer: *mut u8, room: usize) -> u8;
     fn noddyfir_run_energies(records: *const u8, size: usize, answers: *mut u8, room: usize)
     -> Run;
     fn noddyfir_run_ends(records: *const u8, size: usize, answers: *mut u8, room: usize) -> Run;
+    fn noddyfir_run_slopes(records: *const u8, size: usize, answers: *mut u8, room: usize) -> Run;
 }
 
 // Each call is safe: it has no `requires`, its proof says that it stays within the two slices, and Rust sees that these
@@ -32,6 +34,10 @@ pub fn ends(record: &[u8], answer: &mut [u8]) -> u8 {
     unsafe { noddyfir_ends(record.as_ptr(), record.len(), answer.as_mut_ptr(), answer.len()) }
 }
 
+pub fn slopes(record: &[u8], answer: &mut [u8]) -> u8 {
+    unsafe { noddyfir_slopes(record.as_ptr(), record.len(), answer.as_mut_ptr(), answer.len()) }
+}
+
 pub fn run_energies(records: &[u8], answers: &mut [u8]) -> Run {
     let (answer, room) = (answers.as_mut_ptr(), answers.len());
     unsafe { noddyfir_run_energies(records.as_ptr(), records.len(), answer, room) }
@@ -40,6 +46,11 @@ pub fn run_energies(records: &[u8], answers: &mut [u8]) -> Run {
 pub fn run_ends(records: &[u8], answers: &mut [u8]) -> Run {
     let (answer, room) = (answers.as_mut_ptr(), answers.len());
     unsafe { noddyfir_run_ends(records.as_ptr(), records.len(), answer, room) }
+}
+
+pub fn run_slopes(records: &[u8], answers: &mut [u8]) -> Run {
+    let (answer, room) = (answers.as_mut_ptr(), answers.len());
+    unsafe { noddyfir_run_slopes(records.as_ptr(), records.len(), answer, room) }
 }
 
 /// The control word MXCSR of the calling thread.

@@ -1,6 +1,6 @@
 //! Whether the arithmetic of the calling thread is as the proof assumes it. Results are compared by their bits.
 
-use crate::bytes::{ENDS_SIZE, ENERGIES_SIZE};
+use crate::bytes::{ENDS_SIZE, ENERGIES_SIZE, SLOPES_SIZE};
 use crate::{known, raw};
 use std::fmt::{self, Display, Formatter};
 use std::hint::black_box;
@@ -49,8 +49,8 @@ impl Display for Fault {
 
 impl std::error::Error for Fault {}
 
-/// Looks at the mode of the processor's arithmetic, does a few operations whose results are known, and calls energies
-/// and ends for a known case of each perturbation.
+/// Looks at the mode of the processor's arithmetic, does a few operations whose results are known, and calls energies,
+/// ends and slopes for a known case of each perturbation.
 ///
 /// The proof assumes the default mode: rounding to nearest, subnormal numbers kept, no traps. A library that is linked
 /// with fast-math changes it for the whole program. Every call of this crate looks at the mode, which takes some
@@ -135,8 +135,12 @@ fn has_no_excess_precision() -> bool {
 fn known_case_holds(perturbation: usize) -> bool {
     let mut record = known::RECORD;
     record[3] = perturbation as u8;
-    let (mut energies, mut ends) = ([0; ENERGIES_SIZE], [0; ENDS_SIZE]);
+    let (mut energies, mut ends, mut slopes) =
+        ([0; ENERGIES_SIZE], [0; ENDS_SIZE], [0; SLOPES_SIZE]);
     raw::energies(&record, &mut energies);
     raw::ends(&record, &mut ends);
-    energies == known::ENERGIES[perturbation] && ends == known::ENDS[perturbation]
+    raw::slopes(&record, &mut slopes);
+    energies == known::ENERGIES[perturbation]
+        && ends == known::ENDS[perturbation]
+        && slopes == known::SLOPES[perturbation]
 }

@@ -22,6 +22,16 @@ impl State {
         Self { temperature, partial_density, molefracs }
     }
 
+    /// The total density: the sum of the partial densities, added from the left.
+    ///
+    /// ```
+    /// use noddyfir::State;
+    /// assert_eq!(State::with_partial_density(300.0, vec![0.006, 0.002]).density(), 0.008);
+    /// ```
+    pub fn density(&self) -> f64 {
+        self.partial_density.iter().fold(0.0, |sum, density| sum + density)
+    }
+
     /// The fractions are the partial densities divided by their sum. Densities that are all 0 have no fractions: then
     /// use [`State::with_density`], or the calls refuse the state.
     ///
