@@ -83,6 +83,19 @@ static void slopes(void)
     }
 }
 
+/* Under BH a subnormal density has energies, but on the way a slope is divided by a square that vanishes. */
+static void no_slopes(void)
+{
+    static const uint8_t STATE[32] = {[6] = 7, [16] = 0x3f, [17] = 0xf0}, REFUSED[4] = {0, 2, 1, 11};
+    uint8_t record[KNOWN_SIZE], answer[ROOM];
+    memcpy(record, KNOWN_RECORD, KNOWN_SIZE);
+    memcpy(record + KNOWN_SIZE - 32, STATE, 32); /* densities 7 * 2^-1066 and 0, fractions 1 and 0 */
+    expect(noddyfir_energies(record, KNOWN_SIZE, answer, ROOM) == NODDYFIR_ACCEPTED, "energies of a subnormal density");
+    memset(answer, 7, ROOM);
+    expect(noddyfir_slopes(record, KNOWN_SIZE, answer, ROOM) == NODDYFIR_SLOPES, "no slopes of a subnormal density");
+    expect(memcmp(answer, REFUSED, 4) == 0 && untouched(answer, 4), "code 11 has four bytes");
+}
+
 static void runs(void)
 {
     static const uint8_t TWO[7] = {0, 0, 0, 3, 1, 0, 0}, ANSWERS[8] = {0, 2, 1, 2, 0, 2, 1, 5};
@@ -136,6 +149,7 @@ int main(void)
     modes();
     single();
     slopes();
+    no_slopes();
     runs();
     runs_of_slopes();
     sentences();

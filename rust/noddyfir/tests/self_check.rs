@@ -1,8 +1,8 @@
 //! The calls refuse to work in a thread whose arithmetic is not in its default mode.
 
 use noddyfir::{
-    Case, Fault, Mixture, Perturbation, Refusal, State, Substance, bytes, ends, energies, run_ends,
-    self_check,
+    Case, Fault, Mixture, Perturbation, Refusal, State, Substance, bytes, ends, energies, pressure,
+    run_ends, self_check, slopes,
 };
 use std::arch::asm;
 use std::{slice, thread};
@@ -67,10 +67,12 @@ fn every_call_refuses() {
     assert!(energies(&case()).is_ok());
     let case = case();
     let calls = move || {
-        let on_bytes = bytes::run_energies(&[], &mut []);
-        (energies(&case), ends(&case), run_ends(slice::from_ref(&case)), on_bytes)
+        let on_bytes = [bytes::run_energies(&[], &mut []), bytes::run_slopes(&[], &mut [])];
+        let single = (energies(&case), ends(&case), slopes(&case), pressure(&case));
+        (single, run_ends(slice::from_ref(&case)), on_bytes)
     };
-    let expected = (Err(unfit), Err(unfit), vec![Err(unfit)], Err(Fault::Subnormals));
+    let single = (Err(unfit), Err(unfit), Err(unfit), Err(unfit));
+    let expected = (single, vec![Err(unfit)], [Err(Fault::Subnormals); 2]);
     assert_eq!(under(DEFAULT | 0x8040, calls), expected);
     assert!(unfit.to_string().contains("flush-to-zero"));
     assert_eq!(unfit.code(), None);

@@ -46,10 +46,33 @@ fn single_calls_give_the_same_answers() {
     assert!(expected.is_empty());
 }
 
+/// Code 0 is followed by the energies, each before its slope. Other codes are those of energies; only where there are
+/// energies there may be 11 too.
+#[test]
+fn slopes_have_the_stored_energies() {
+    let answers = answers(bytes::run_slopes, RECORDS, 100);
+    let (mut slopes, mut energies) = (&answers[..], ENERGIES);
+    while !energies.is_empty() {
+        let accepted = energies[3] == 0;
+        let [size, written] = match slopes[3] {
+            0 => [bytes::SLOPES_SIZE, bytes::ENERGIES_SIZE],
+            11 => [bytes::REFUSAL_SIZE, bytes::ENERGIES_SIZE],
+            _ => [bytes::REFUSAL_SIZE; 2],
+        };
+        assert!(if accepted { matches!(slopes[3], 0 | 11) } else { slopes[3] == energies[3] });
+        let pairs = slopes[bytes::REFUSAL_SIZE..size].chunks(16);
+        let values = energies[bytes::REFUSAL_SIZE..written].chunks(8);
+        assert!(pairs.zip(values).all(|(pair, value)| &pair[..8] == value));
+        (slopes, energies) = (&slopes[size..], &energies[written..]);
+    }
+    assert!(slopes.is_empty());
+}
+
 #[test]
 fn a_short_buffer_and_a_broken_tail() {
     assert_eq!(bytes::energies(RECORDS, &mut [7; 27]), Ok(1));
     assert_eq!(bytes::ends(RECORDS, &mut [7; 51]), Ok(1));
+    assert_eq!(bytes::slopes(RECORDS, &mut [7; 51]), Ok(1));
     let run = bytes::run_ends(&[0, 9, 1], &mut [0; 52]).unwrap();
     assert_eq!(run, Run { records: 0, read: 0, written: 0, reason: Reason::Broken });
     assert_eq!(Refusal::from_code(1).and_then(Refusal::code), Some(1));
