@@ -11,12 +11,15 @@ Reads a mixture and its state from a text file, or from standard input where FIL
 residual Helmholtz energies, each divided by kT, per cubic angstrom: the value with a bar behind its certain
 figures, their number, and the lower and upper end that are proved to enclose it.
 
+  --pressure                         also prints the slopes of the energies along total density, and the pressure
+                                     in bar that is worked from them, outside the proof
   --sweep density FROM TO STEPS      the same for STEPS + 1 total densities from FROM to TO, in molecules per
                                      cubic angstrom; the fractions stay
   --sweep temperature FROM TO STEPS  the same for temperatures in kelvin; the densities stay
   --csv                              the sweep as comma-separated values
-  --plot FILE.png                    also draws the sweep: values, ends and certain figures (needs gnuplot)
-  --records FILE                     also writes the case records, for the programs energies and ends
+  --plot FILE.png                    also draws the sweep: values, ends, certain figures and, with --pressure, the
+                                     pressure (needs gnuplot)
+  --records FILE                     also writes the case records, for the programs energies, ends and slopes
   --help, --version
 
 Status: 0 printed; 1 refused, with the reason; 2 bad arguments or a bad file, with the line at fault;
@@ -44,6 +47,7 @@ pub struct Sweep {
 #[derive(Debug, Default)]
 pub struct Arguments {
     pub file: PathBuf,
+    pub pressure: bool,
     pub sweep: Option<Sweep>,
     pub csv: bool,
     pub plot: Option<PathBuf>,
@@ -96,6 +100,8 @@ fn take_option(option: &str, words: &mut Words, into: &mut Arguments) -> Result<
     match option {
         "--csv" if into.csv => return Err(twice()),
         "--csv" => into.csv = true,
+        "--pressure" if into.pressure => return Err(twice()),
+        "--pressure" => into.pressure = true,
         "--sweep" => {
             let sweep = sweep(words)?;
             into.sweep.replace(sweep).map_or(Ok(()), |_| Err(twice()))?;

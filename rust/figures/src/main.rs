@@ -1,4 +1,4 @@
-//! figures: prints the energies of a mixture, their ends, and how many of their figures are certain.
+//! figures: prints the energies of a mixture, their ends, how many of their figures are certain, and the pressure.
 
 mod arguments;
 mod csv;
@@ -46,7 +46,7 @@ fn answer(arguments: &Arguments, input: &Input) -> Result<(), Failure> {
     }
     match &arguments.sweep {
         Some(sweep) => sweep::answer(arguments, input, sweep),
-        None => report::answer(input),
+        None => report::answer(input, arguments.pressure),
     }
 }
 

@@ -75,9 +75,18 @@ const ENDS: [&str; 2] = [
 ];
 const FIGURES: [&str; 1] = ["1:7 with points pt COLOUR ps 0.8 lc COLOUR title 'NAME'"];
 
-/// Three panels, one above the other, of the data that stand in the script.
+/// The panel of the pressure, which is drawn where there is one.
+const PRESSURE: &str = "set title 'The pressure, which is worked outside the proof'\n\
+     set format y '%g'\nset ylabel 'bar'\nset yrange [*:*]\nset ytics autofreq\n\
+     plot $pressure using 1:3 with lines lw 2 lc 4 title 'pressure', \
+     $pressure using 1:2 with lines dt 2 lc 4 title 'ideal gas'\n";
+
+/// Panels one above the other, of the data that stand in the script.
 pub fn script(input: &Input, sweep: &Sweep, points: &[Point]) -> String {
     let mut script: String = (0..3).map(|energy| block(energy, points)).collect();
+    let with_pressure = points.iter().any(|point| point.outcome.sloped().is_some());
+    script += &if with_pressure { pressure_block(points) } else { String::new() };
+    let rows = if with_pressure { 4 } else { 3 };
     let (axis, kept) = match sweep.variable {
         Variable::Density => {
             ("molecules per cubic angstrom", format!("{} K", input.state.temperature))
@@ -86,14 +95,15 @@ pub fn script(input: &Input, sweep: &Sweep, points: &[Point]) -> String {
     };
     let title = quoted(&format!("{}, {}, {kept}", input.names.join(" + "), input.perturbation));
     script += &format!(
-        "set terminal pngcairo noenhanced size 1000,1200 font 'Sans,11'\n\
-         set multiplot layout 3,1 title {title}\n\
+        "set terminal pngcairo noenhanced size 1000,{} font 'Sans,11'\n\
+         set multiplot layout {rows},1 title {title}\n\
          set lmargin at screen 0.11\nset rmargin at screen 0.74\n\
-         set xlabel '{axis}'\nset grid\nset key outside right top\n"
+         set xlabel '{axis}'\nset grid\nset key outside right top\n",
+        400 * rows
     );
     let panels = [plot(&VALUES), plot(&ENDS), plot(&FIGURES)];
     PANELS.iter().zip(panels).for_each(|(set, plot)| script += &format!("{set}{plot}"));
-    script + "unset multiplot\n"
+    script + if with_pressure { PRESSURE } else { "" } + "unset multiplot\n"
 }
 
 fn densities(input: &Input) -> String {
@@ -141,4 +151,15 @@ fn block(energy: usize, points: &[Point]) -> String {
         )
     };
     format!("$energy{energy} << END\n{}END\n", points.iter().map(line).collect::<String>())
+}
+
+/// at, ideal gas, pressure.
+fn pressure_block(points: &[Point]) -> String {
+    let line = |point: &Point| match point.outcome.sloped() {
+        Some((_, pressure)) => {
+            format!("{:e} {:e} {:e}\n", point.at, pressure.ideal, pressure.total())
+        }
+        None => format!("{:e} NaN NaN\n", point.at),
+    };
+    format!("$pressure << END\n{}END\n", points.iter().map(line).collect::<String>())
 }

@@ -2,22 +2,23 @@
 
 use crate::failure::{self, Failure};
 use crate::input::Input;
-use crate::outcome::{explain, outcomes};
+use crate::outcome::{outcomes, reasons};
 use crate::table;
 use std::io::{self, Write};
 
-pub fn answer(input: &Input) -> Result<(), Failure> {
+pub fn answer(input: &Input, with_pressure: bool) -> Result<(), Failure> {
     let case = input.case(input.state.clone());
-    let outcome = outcomes(std::slice::from_ref(&case))?[0];
-    let lines = table::lines(&outcome);
+    let outcome = outcomes(std::slice::from_ref(&case), with_pressure)?[0];
+    let mut lines = table::lines(&outcome);
     if !lines.is_empty() {
-        let text = format!("{}\n{}\n", title(input), table::LEGEND);
+        let text = format!("{}\n{}\n", title(input), table::legend(with_pressure));
+        for below in [table::slope_lines(&outcome), table::pressure_lines(&outcome)] {
+            lines.extend((!below.is_empty()).then(String::new));
+            lines.extend(below);
+        }
         print(&text, &lines).or_else(failure::of_output)?;
     }
-    match outcome.refusal() {
-        None => Ok(()),
-        Some(refusal) => Err(Failure::refused(explain(refusal, &case, input, None))),
-    }
+    reasons(&outcome, &case, input, None).map_or(Ok(()), |text| Err(Failure::refused(text)))
 }
 
 fn print(text: &str, lines: &[String]) -> io::Result<()> {

@@ -3,7 +3,7 @@
 use crate::arguments::{Arguments, Sweep, Variable};
 use crate::failure::{self, Failure};
 use crate::input::Input;
-use crate::outcome::{Outcome, explain, outcomes};
+use crate::outcome::{Outcome, outcomes, reasons};
 use crate::progress::Progress;
 use crate::{csv, plot, table};
 use noddyfir::{Case, State};
@@ -27,8 +27,12 @@ pub fn answer(arguments: &Arguments, input: &Input, sweep: &Sweep) -> Result<(),
     if let Some(file) = &arguments.plot {
         plot::draw(file, input, sweep, &points)?;
     }
-    if points.iter().all(|point| point.outcome.refusal().is_some()) {
+    let none_has = |what: fn(&Outcome) -> bool| !points.iter().any(|point| what(&point.outcome));
+    if none_has(|outcome| outcome.ends.is_ok()) {
         return Err(Failure::refused("no state of the sweep has ends"));
+    }
+    if arguments.pressure && none_has(|outcome| outcome.sloped().is_some()) {
+        return Err(Failure::refused("no state of the sweep has slopes"));
     }
     Ok(())
 }
@@ -53,21 +57,21 @@ fn case(input: &Input, variable: Variable, at: f64) -> Case {
 
 /// Without a reader of the table, and without a picture to draw, the rest is not worked.
 fn print_all(arguments: &Arguments, input: &Input, sweep: &Sweep) -> Result<Vec<Point>, Failure> {
-    let as_csv = arguments.csv;
+    let (as_csv, with_pressure) = (arguments.csv, arguments.pressure);
     let (values, mut points) = (values(sweep), Vec::new());
     let progress = Progress::new(values.len());
     let head = if as_csv {
-        csv::header(sweep.variable)
+        csv::header(sweep.variable, with_pressure)
     } else {
-        format!("{}\n", table::LEGEND.trim_end())
+        table::legend(with_pressure)
     };
     let mut open = print(&head)?;
     for part in values.chunks(PART) {
         progress.show(points.len());
         let cases: Vec<Case> = part.iter().map(|&at| case(input, sweep.variable, at)).collect();
-        let part_points =
-            part.iter().zip(outcomes(&cases)?).map(|(&at, outcome)| Point { at, outcome });
-        let part_points: Vec<Point> = part_points.collect();
+        let outcomes = outcomes(&cases, with_pressure)?;
+        let part_points: Vec<Point> =
+            part.iter().zip(outcomes).map(|(&at, outcome)| Point { at, outcome }).collect();
         let text = text(as_csv, input, sweep, &part_points, &cases);
         progress.clear();
         open = open && print(&text)?;
@@ -89,14 +93,15 @@ fn print(text: &str) -> Result<bool, Failure> {
 
 fn text(as_csv: bool, input: &Input, sweep: &Sweep, points: &[Point], cases: &[Case]) -> String {
     let line = |(point, case): (&Point, &Case)| {
-        let explained = |refusal| explain(refusal, case, input, Some(sweep.variable));
-        let refusal = point.outcome.refusal().map(explained);
+        let refusal = reasons(&point.outcome, case, input, Some(sweep.variable));
         if as_csv {
             return csv::line(point.at, &point.outcome, refusal.as_deref());
         }
         let mut lines = vec![format!("{} = {}", csv::variable_name(sweep.variable), point.at)];
         lines.extend((!point.outcome.list().is_empty()).then(table::header));
         lines.extend(table::lines(&point.outcome));
+        lines.extend(table::slope_lines(&point.outcome));
+        lines.extend(table::pressure_lines(&point.outcome));
         lines.extend(refusal);
         lines.join("\n") + "\n"
     };

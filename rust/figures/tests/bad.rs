@@ -194,6 +194,7 @@ fn arguments_that_are_not_understood() {
         (vec!["a", "--plot", "b.png"], "--csv and --plot go with --sweep"),
         (vec!["a", "--plot"], "--plot needs a file"),
         (vec!["a", "--csv", "--csv"], "--csv is given twice"),
+        (vec!["a", "--pressure", "--pressure"], "--pressure is given twice"),
         (vec!["a", "--sweep"], "the variable is missing"),
         (vec!["a", "--sweep", "density", "0", "1"], "STEPS is missing"),
         (vec!["a", "--sweep", "pressure", "0", "1", "5"], "takes density or temperature"),

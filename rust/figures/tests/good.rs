@@ -100,5 +100,6 @@ fn help_and_version() {
     let help = run(command().arg("--help"), b"");
     assert_eq!(help.status, Some(0));
     assert!(help.stdout.contains("--sweep density FROM TO STEPS"));
+    assert!(help.stdout.contains("--pressure "));
     assert!(run(command().arg("--version"), b"").stdout.starts_with("figures 0."));
 }

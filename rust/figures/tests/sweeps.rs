@@ -121,7 +121,7 @@ fn with_gnuplot_the_picture_is_drawn() {
     {
         let file = temporary(&format!("{name}.png"));
         let _ = std::fs::remove_file(&file);
-        let sweep = ["-", "--sweep", variable, from, to, "60", "--plot"];
+        let sweep = ["-", "--pressure", "--sweep", variable, from, to, "60", "--plot"];
         let text = WCA.replace("argon", "ar'gon");
         let result = run(command().args(sweep).arg(&file), text.as_bytes());
         assert_eq!((result.status, result.stderr.as_str()), (Some(0), ""));
@@ -129,23 +129,47 @@ fn with_gnuplot_the_picture_is_drawn() {
     }
 }
 
-/// What is sent to gnuplot, seen by a program that stands in its place.
-#[test]
+/// What is sent to gnuplot, seen by a program that stands in its place, in a folder of this name.
 #[cfg(unix)]
-fn the_script_for_gnuplot_has_all_three_panels() {
+fn script(name: &str, options: &[&str]) -> String {
     use std::os::unix::fs::PermissionsExt;
-    let folder = temporary("stand-in");
+    let folder = temporary(name);
     std::fs::create_dir_all(&folder).unwrap();
     let (program, script) = (folder.join("gnuplot"), folder.join("script"));
     let text = format!("#!/bin/sh\n[ $# = 1 ] && exit\n/bin/cat >'{}'\nexit 1\n", script.display());
     std::fs::write(&program, text).unwrap();
     std::fs::set_permissions(&program, std::fs::Permissions::from_mode(0o755)).unwrap();
     let sweep = ["-", "--sweep", "density", "0.001", "0.02", "3", "--plot", "x.png"];
-    let result = run(command().args(sweep).env("PATH", &folder), WCA.as_bytes());
+    let result = run(command().args(sweep).args(options).env("PATH", &folder), WCA.as_bytes());
     assert_eq!(result.status, Some(2));
     assert!(result.stderr.contains("gnuplot drew nothing"));
-    let script = std::fs::read_to_string(script).unwrap();
+    std::fs::read_to_string(script).unwrap()
+}
+
+#[test]
+#[cfg(unix)]
+fn the_script_for_gnuplot_has_all_three_panels() {
+    let script = script("stand-in", &[]);
+    assert!(script.contains("size 1000,1200 ") && script.contains("layout 3,1 "));
     assert_eq!(script.matches("\nplot $energy0 using ").count(), 3);
     assert_eq!(script.matches(" << END\n1e-3 ").count(), 3);
     assert!(script.contains("title 'argon + methane, WCA, 293.15 K'"));
+}
+
+#[test]
+#[cfg(unix)]
+fn with_pressure_the_script_has_a_panel_more() {
+    let (without, with) = (script("without", &[]), script("with", &["--pressure"]));
+    assert!(!without.contains("$pressure"));
+    assert!(with.contains("size 1000,1600 ") && with.contains("layout 4,1 "));
+    assert_eq!(with.matches("\nplot $pressure using ").count(), 1);
+    let (_, data) = with.split_once("$pressure << END\n").unwrap();
+    let rows: Vec<Vec<f64>> = data
+        .lines()
+        .take_while(|line| *line != "END")
+        .map(|line| line.split(' ').map(|cell| cell.parse().unwrap()).collect())
+        .collect();
+    assert_eq!((rows.len(), rows[0][0], rows[3][0]), (4, 0.001, 0.02));
+    // Attraction lowers the pressure of a thin gas, and the spheres raise that of a dense one.
+    assert!(rows[0][2] < rows[0][1] && rows[3][2] > rows[3][1]);
 }
