@@ -1,5 +1,5 @@
 //! split_records PREFIX: cuts the case records of standard input, at the boundaries of records, into the files PREFIX000000,
-//! PREFIX000001 and so on, each of at most 65,536 bytes, which is what the programs energies and ends read.
+//! PREFIX000001 and so on, each of at most 65,536 bytes, which is what the programs energies, ends and slopes read.
 
 use std::fs::File;
 use std::io::{self, ErrorKind, Read, Write};
