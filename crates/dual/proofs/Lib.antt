@@ -1,6 +1,6 @@
 -- The laws of the rules.
 pub mod Nan
-pub mod Points
+pub mod Constants
 pub mod Cases
 pub mod Values
 pub mod Agreement

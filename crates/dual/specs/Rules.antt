@@ -107,9 +107,9 @@ expSlope e a a' = cond (lt a minusSevenHundred) (whereFinite a' zeroD) (a' * e)
 module _ (H : Halves) where
   open Halves H using (made)
 
-  -- "constants and constant cases have slope 0"
+  -- "constants and constant cases have slope 0", where they are finite
   unfoldable pub constant : Float → Dual
-  constant k = made (H .constant k) zeroD
+  constant k = made (H .constant k) (whereFinite k zeroD)
 
   -- an input "starts with the slope" s
   unfoldable pub start : Float → Float → Dual

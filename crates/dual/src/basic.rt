@@ -50,7 +50,7 @@ impl Dual {
     {
         Dual {
             value: x,
-            slope: 0.0,
+            slope: where_finite(x, 0.0),
         }
     }
 

@@ -1,2 +1,3 @@
--- The contributions of a mixture in a state, as sent.
+-- The contributions of a mixture in a state, as sent, and with slopes.
 pub mod Sent
+pub mod Slopes

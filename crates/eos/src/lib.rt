@@ -1,3 +1,4 @@
-// uvtheory/eos/mod.rs: the contributions of a perturbation, in doubles and in ranges.
+// uvtheory/eos/mod.rs: the contributions of a perturbation, in doubles, in ranges and in values with slopes.
 pub mod doubles;
 pub mod ranges;
+pub mod slopes;

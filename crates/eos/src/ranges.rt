@@ -1,16 +1,33 @@
 // uvtheory/eos/mod.rs on ranges: the contributions of a perturbation.
+use range::basic::Range;
 use uvtheory::parameters::Mixture;
 use uvtheory::parameters::State;
 use uvtheory_range::contributions::Contributions;
+use uvtheory_range::parameters::constants;
+ghost use mathlib.Core.Path.{_≡_};
 ghost use Prim.Native.Nat.{_≤_};
 ghost use Rattle.range.specs.Rules.{ranges};
-ghost use Rattle.eos.specs.Sent.{contributions};
+ghost use Rattle.uvtheory.specs.Rows.{state};
 ghost use Rattle.uvtheory_range.specs.Held.{ContributionsOf};
+ghost use Rattle.uvtheory_range.specs.Rows as Held;
+ghost use Rattle.eos.specs.Sent.{contributions};
+
+// The state as sent.
+fn sent(s: State) -> uvtheory_range::parameters::State
+    ensures { λ r. ⌜ Held.state r ≡ state ranges s ⌝ }
+{
+    uvtheory_range::parameters::State {
+        temperature: Range::constant(s.temperature),
+        partial_density: constants(s.partial_density),
+        molefracs: constants(s.molefracs),
+    }
+}
 
 pub fn contributions(perturbation: u8, m: Mixture, s: State) -> Contributions
     requires { ⌜ m .n ≤ 8 ⌝ }
     ensures { λ r. ⌜ ContributionsOf r (contributions ranges perturbation m s) ⌝ }
 {
+    let s = sent(s);
     if perturbation == 0 {
         return uvtheory_range_bh::residual_helmholtz_energy_contributions(m, s);
     }

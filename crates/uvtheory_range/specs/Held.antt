@@ -1,4 +1,4 @@
--- What the code holds, by the formulas in ranges: the combined values of one pair and of all, and the ends of the three energies.
+-- What the code holds, by the formulas in ranges: the combined values of one pair and of all, and the three energies.
 use Prim.Native.Nat.{ℕ}
 use mathlib.Core.Path.{_≡_}
 use mathlib.Core.List.{List}
@@ -29,7 +29,7 @@ pub record CombinedOf (m : Mixture) (c : Combined) : Type 0 where
 abbrev pub Symmetric : ℕ → List Range → Type 0
 Symmetric = SymmetricOf missing
 
--- the ends of the three energies, as the code holds them
+-- the three energies, as the code holds them
 pub record ContributionsOf (held : Held) (c : Contributions Range) : Type 0 where
   pub hard-sphere-is : held .«hard_sphere» ≡ c .hard-sphere
   pub reference-is : held .reference ≡ c .reference

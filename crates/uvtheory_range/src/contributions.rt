@@ -1,4 +1,4 @@
-// The ends of the three contributions, in the order of the answer.
+// The three contributions on ranges, in the order of the answer.
 use range::basic::Range;
 
 pub struct Contributions {

@@ -1,4 +1,4 @@
-// The second copy of the port, on ranges, in the modules of crate uvtheory: each function is proved equal to its formula in ranges.
+// The port on ranges, in the modules of crate uvtheory: each function is proved equal to its formula in ranges.
 pub mod beta_eff;
 pub mod contributions;
 pub mod hard_sphere;

@@ -43,7 +43,7 @@ ghost use Rattle.uvtheory_range.specs.Rows.{constants, row, matrix, fluid, Row,
 ghost use Rattle.uvtheory_range.specs.Held.{CombinedOf, Symmetric};
 ghost use Rattle.uvtheory_range_wca.specs.Lengths.{LengthsOf};
 
-// The low temperature correction; e is the exponential of both its cases. Both are worked: the rule picks one for the whole range.
+// The low temperature correction; e is the exponential of both its cases. Both are worked: the rule picks one.
 fn omega(t_x: Range, e: Range) -> Range
     ensures { λ r. ⌜ r ≡ F.omega ranges «t_x» e ⌝ }
 {

@@ -1,4 +1,4 @@
-use Rattle.dual.proofs.Points.{zero-point}
+use Rattle.dual.proofs.Constants.{zero-constant}
 use Rattle.dual.proofs.Cases.{powf-over, powf-under, powf-zero, powf-none}
 use Rattle.dual.proofs.exponential.powf.Statement.{statement}
 use Rattle.dual.proofs.exponential.powf.Tie as tie
@@ -19,7 +19,7 @@ returns-3 c =
     let f = t .before .before in
     let e = f .before .before in
     let a = e .before .before .args in
-    rw (powf-zero (a .v) (a .b) (e .if1 .left) (f .if2 .left) (t .if3 .taken), c .within2 .ensures, c .before .within .ensures, zero-point)
+    rw (powf-zero (a .v) (a .b) (e .if1 .left) (f .if2 .left) (t .if3 .taken), c .within2 .ensures, c .before .within .ensures, zero-constant)
 
 returns-4 : tie.Need-returns-4
 returns-4 c =

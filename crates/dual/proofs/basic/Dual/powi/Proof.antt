@@ -6,7 +6,7 @@ use native.Mathlib.Numerals.{add-one}
 use Rattle.arithmetic.specs.Arithmetic.{powerBy}
 use Rattle.dual.specs.declared.basic.Dual.{Dual}
 use Rattle.dual.specs.Rules.{guardedSlopes, plain, mul}
-use Rattle.dual.proofs.Points.{one-point}
+use Rattle.dual.proofs.Constants.{one-constant}
 use Rattle.dual.proofs.basic.Dual.powi.Statement.{statement}
 use Rattle.dual.proofs.basic.Dual.powi.Tie as tie
 
@@ -26,7 +26,7 @@ abbrev μ-loop : tie.MeasureT-loop
 
 returns : tie.Need-returns Inv-loop μ-loop
 unfolding powerBy
-returns c = rw (c .if1 .taken, one-point)
+returns c = rw (c .if1 .taken, one-constant)
 
 loop-holds : tie.Need-loop-holds Inv-loop μ-loop
 unfolding powerBy

@@ -1,0 +1,37 @@
+-- Written by tools/copies from crates/uvtheory_range/proofs/hard_sphere/weighted_zeta/Proof.antt.
+use Prim.Native.Nat.{_≤_, _-_}
+use mathlib.Core.Path.{_≡_, refl, sym}
+use native.Mathlib.Omega.{arith}
+use borrow.Author.Needs.{needs}
+use Rattle.arithmetic.specs.Arithmetic.{sumBy}
+use Rattle.dual.specs.Rules.{guardedSlopes}
+use Rattle.dual.proofs.Constants.{zero-constant}
+use Rattle.uvtheory.specs.Literals as N
+use Rattle.uvtheory.specs.HardSphere as F
+use Rattle.uvtheory.proofs.Loops.{sum-step}
+use Rattle.uvtheory_dual.specs.Rows.{row}
+use Rattle.uvtheory_dual.proofs.hard_sphere.weighted_zeta.Statement.{statement}
+use Rattle.uvtheory_dual.proofs.hard_sphere.weighted_zeta.Tie as tie
+
+abbrev Inv-loop : tie.InvT-loop
+Inv-loop n k diameter weights z₀ i₀ z i = (i ≤ n) × (z ≡ guardedSlopes .sum i (λ j. guardedSlopes .mul (guardedSlopes .mul (row weights j) (guardedSlopes .powi (row diameter j) k)) (guardedSlopes .constant N.FRAC-PI-6)))
+
+abbrev μ-loop : tie.MeasureT-loop
+μ-loop n k diameter weights z₀ i₀ z i = n - i
+
+loop-holds : tie.Need-loop-holds Inv-loop μ-loop
+unfolding sumBy
+loop-holds c = (omega arith, sym zero-constant)
+
+loop-again : tie.Need-loop-again Inv-loop μ-loop
+loop-again c = (
+  omega arith,
+  rw (c .add .ensures, c .before .mul2 .ensures, c .before .before .constant .ensures, c .before .before .before .mul .ensures, c .before .before .before .before .powi .ensures, c .before .before .before .before .before .before .before .before .loop .inv .1, sum-step guardedSlopes (λ n f. refl)),
+)
+
+returns : tie.Need-returns Inv-loop μ-loop
+unfolding F.weighted-zeta
+returns c = let e : c .before .loop .i ≡ c .before .before .args .n = omega arith in rw e at (c .before .loop .inv .1)
+
+pub weighted-zeta-spec : {M : Type 1} → statement M
+weighted-zeta-spec = tie.close (tie.spec Inv-loop μ-loop loop-holds (λ c. search needs) (λ c. search needs) (λ c. search needs) (λ c. search needs) (λ c κs. tt) (λ c κs. tt) (λ c κs. tt) (λ c κs. tt) (λ c κs. tt) (λ c. search needs) (λ c. search needs) loop-again returns)
