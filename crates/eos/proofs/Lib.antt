@@ -1,2 +1,5 @@
--- The choice of a perturbation, in any arithmetic.
+-- The choice of a perturbation, and what the contributions of every mixture as sent keep.
 mod Choice
+pub mod Sent
+pub mod Agreement
+pub mod Slopes

@@ -1,4 +1,4 @@
--- The call on one record: its answer, its code, and the whole content of the answer buffer after it.
+-- The call on one record, by its kind: its answer, its code, and the whole content of the answer buffer after it.
 use Prim.Native.Nat.{ℕ}
 use mathlib.Core.List.{List}
 use mathlib.Core.Bool.{Bool, _&&_, cond}
@@ -8,65 +8,86 @@ use lib.Ieee.{Float}
 use lib.Ieee.Scale.{finite}
 use Rattle.arithmetic.specs.Doubles.{doubles}
 use Rattle.range.specs.declared.basic.Range.{Range}
-use Rattle.range.specs.Rules.{ok, ranges}
+use Rattle.range.specs.Rules.{ranges}
+use Rattle.range.specs.Rules as Range
+use Rattle.dual.specs.declared.basic.Dual.{Dual}
+use Rattle.dual.specs.Rules.{strict}
+use Rattle.dual.specs.Rules as Dual
 use Rattle.uvtheory.specs.Contributions.{Contributions}
 use Rattle.eos.specs.Sent.{contributions}
-use Rattle.case_record.specs.declared.answer.Energies.{Energies}
-use Rattle.case_record.specs.declared.answer.Energies.the-variants.{Values, Refused}
-use Rattle.case_record.specs.declared.answer.Ends.{Ends}
-use Rattle.case_record.specs.declared.answer.Ends.the-variants.{Values as Ranges, Refused as NoEnds}
+use Rattle.eos.specs.Slopes as Slopes
 use Rattle.case_record.specs.declared.case.Case.{Case}
 use Rattle.case_record.specs.Bytes.{written}
 use Rattle.case_record.specs.Record.{caseOf}
 use Rattle.case_record.specs.Checks.{refusalOf}
-use Rattle.case_record.specs.Answer.{answerBytes, codeOf, endsBytes, endsCode}
+use Rattle.answer.specs.declared.Answer.{Answer}
+use Rattle.answer.specs.declared.Answer.the-variants.{Energies, Ends, Slopes, Refused}
+use Rattle.answer.specs.Answer.{answerBytes, codeOf}
+use Rattle.noddyfir.specs.declared.call.Kind.{Kind}
+use Rattle.noddyfir.specs.declared.call.Kind.the-variants.{Energies as ForEnergies, Ends as ForEnds, Slopes as ForSlopes}
+
+-- of all three: "hard sphere, reference, attractive, in that order"
+abbrev pub all : {X : Type 0} → (X → Bool) → Contributions X → Bool
+all p e = p (e .hard-sphere) && p (e .reference) && p (e .attractive)
 
 -- ---- "The answer of a case is either the three energies or one number of refusal."
--- "hard sphere, reference, attractive, in that order". Code 9: "a value on the chosen path is not finite, or an elementary function has no rule for its argument".
+-- Code 9: "a value on the chosen path is not finite, or an elementary function has no rule for its argument".
 -- In the arithmetic `doubles` such a value is NaN, and so is what is worked from it: one of the three is NaN.
-unfoldable pub finiteOr9 : Contributions Float → Energies
-finiteOr9 e =
-    cond (finite (e .hard-sphere) && finite (e .reference) && finite (e .attractive)) (Values (e .hard-sphere) (e .reference) (e .attractive)) (Refused 9)
+unfoldable pub finiteOr9 : Contributions Float → Answer
+finiteOr9 e = cond (all finite e) (Energies (e .hard-sphere) (e .reference) (e .attractive)) (Refused 9)
 
-unfoldable pub energiesOf : Case → Energies
+unfoldable pub energiesOf : Case → Answer
 energiesOf c = finiteOr9 (contributions doubles (c .perturbation) (c .mixture) (c .state))
-
--- the code of the first check that fails, or the energies of the record's case
-unfoldable pub answerOf : List ℕ → Energies
-answerOf s = cond (eqb (refusalOf s) 0) (energiesOf (caseOf s)) (Refused (refusalOf s))
-
--- its bytes
-abbrev pub energiesAnswer : List ℕ → List ℕ
-energiesAnswer s = answerBytes (answerOf s)
 
 -- ---- "Ends are added by design. They cover the same three terms."
 -- Code 10: "a range rule below fails". In the arithmetic `ranges` such a rule gives a range that is not ok, and so is what is worked from it: one of the three is not ok.
-unfoldable pub okOr10 : Contributions Range → Ends
-okOr10 e = cond (ok (e .hard-sphere) && ok (e .reference) && ok (e .attractive)) (Ranges (e .hard-sphere) (e .reference) (e .attractive)) (NoEnds 10)
+unfoldable pub okOr10 : Contributions Range → Answer
+okOr10 e = cond (all Range.ok e) (Ends (e .hard-sphere) (e .reference) (e .attractive)) (Refused 10)
 
-unfoldable pub endsOf : Case → Ends
-endsOf c = okOr10 (contributions ranges (c .perturbation) (c .mixture) (c .state))
+-- "Place, in order": 9 comes before 10
+unfoldable pub endsOf : Case → Answer
+endsOf c =
+    cond (all finite (contributions doubles (c .perturbation) (c .mixture) (c .state))) (okOr10 (contributions ranges (c .perturbation) (c .mixture) (c .state))) (Refused 9)
 
--- "Place, in order": what refuses the energies refuses the ends, with its code; 9 comes before 10
-abbrev pub afterEnergies : Energies → Ends → Ends
-afterEnergies (Values x y z) ends = ends
-afterEnergies (Refused code) ends = NoEnds code
+-- ---- M-100: "the slope of each energy along total density"
+-- "11, a slope on the path is not finite, tested after 9." In the arithmetic `slopes` such a slope is NaN, and so is that of what is worked from it.
+unfoldable pub finiteOr9Or11 : Contributions Dual → Answer
+finiteOr9Or11 e =
+    cond (all (λ x. finite (x .value)) e) (cond (all Dual.ok e) (Slopes (e .hard-sphere) (e .reference) (e .attractive)) (Refused 11)) (Refused 9)
 
-unfoldable pub endsAnswerOf : List ℕ → Ends
-endsAnswerOf s = afterEnergies (answerOf s) (endsOf (caseOf s))
+unfoldable pub slopesOf : Case → Answer
+slopesOf c = finiteOr9Or11 (Slopes.contributions strict (c .perturbation) (c .mixture) (c .state))
+
+-- ---- by kind: what is worked of a case, and the room that an answer may need
+abbrev pub workedOf : Kind → Case → Answer
+workedOf ForEnergies c = energiesOf c
+workedOf ForEnds c = endsOf c
+workedOf ForSlopes c = slopesOf c
+
+abbrev pub roomOf : Kind → ℕ
+roomOf ForEnergies = 28
+roomOf ForEnds = 52
+roomOf ForSlopes = 52
+
+-- the code of the first check that fails, or what is worked of the record's case
+unfoldable pub answerOf : Kind → List ℕ → Answer
+answerOf kind s = cond (eqb (refusalOf s) 0) (workedOf kind (caseOf s)) (Refused (refusalOf s))
+
+-- its bytes, and its code
+abbrev pub answerTo : Kind → List ℕ → List ℕ
+answerTo kind s = answerBytes (answerOf kind s)
+
+abbrev pub codeTo : Kind → List ℕ → ℕ
+codeTo kind s = codeOf (answerOf kind s)
+
+abbrev pub energiesAnswer : List ℕ → List ℕ
+energiesAnswer s = answerTo ForEnergies s
 
 abbrev pub endsAnswer : List ℕ → List ℕ
-endsAnswer s = endsBytes (endsAnswerOf s)
+endsAnswer s = answerTo ForEnds s
 
--- ---- the two calls, by whether ends are asked for: the room that an answer may need, the answer's bytes, and its code
-abbrev pub roomOf : Bool → ℕ
-roomOf ends = cond ends 52 28
-
-abbrev pub answerTo : Bool → List ℕ → List ℕ
-answerTo ends s = cond ends (endsAnswer s) (energiesAnswer s)
-
-abbrev pub codeTo : Bool → List ℕ → ℕ
-codeTo ends s = cond ends (endsCode (endsAnswerOf s)) (codeOf (answerOf s))
+abbrev pub slopesAnswer : List ℕ → List ℕ
+slopesAnswer s = answerTo ForSlopes s
 
 -- ---- The answer buffer. `room` is what it must have.
 -- "under 28 bytes (energies) or 52 (ends); nothing is written": code 1, or else that of the answer
