@@ -2,11 +2,12 @@
 
 use crate::failure::{Rule, or_first_failure, unless_failed};
 use crate::record::{self, Case, code};
-use crate::{over_doubles, over_ranges};
+use crate::{over_doubles, over_ranges, over_slopes};
 
 /// The bytes of an answer of code 0; a shorter buffer is refused.
 pub const ENERGIES_ROOM: usize = 28;
 pub const ENDS_ROOM: usize = 52;
+pub const SLOPES_ROOM: usize = 52;
 
 /// The code, which the answer also carries, except for 1, where nothing is written.
 pub fn answer_energies(record: &[u8], buffer: &mut [u8]) -> u8 {
@@ -24,6 +25,14 @@ pub fn answer_ends(record: &[u8], buffer: &mut [u8]) -> u8 {
     write(record::read(record).and_then(|case| ends(&case)), buffer)
 }
 
+/// The same for the energies and their slopes, each value before its slope.
+pub fn answer_slopes(record: &[u8], buffer: &mut [u8]) -> u8 {
+    if buffer.len() < SLOPES_ROOM {
+        return code::ANSWER_BUFFER;
+    }
+    write(record::read(record).and_then(|case| slopes(&case)), buffer)
+}
+
 /// The three energies, or 9.
 pub fn energies(case: &Case) -> Result<[f64; 3], u8> {
     let energies = unless_failed(|| over_doubles::contributions(case));
@@ -36,6 +45,15 @@ pub fn ends(case: &Case) -> Result<[f64; 6], u8> {
     let ranges = unless_failed(|| over_ranges::contributions(case)).ok_or(code::ENDS)?;
     let [a, b, c] = ranges;
     Ok([a.lower, a.upper, b.lower, b.upper, c.lower, c.upper])
+}
+
+/// The three pairs of an energy and its slope, or 9 or 11.
+pub fn slopes(case: &Case) -> Result<[f64; 6], u8> {
+    match or_first_failure(|| over_slopes::contributions(case)) {
+        Ok([a, b, c]) => Ok([a.value(), a.slope(), b.value(), b.slope(), c.value(), c.slope()]),
+        Err(Rule::Slope) => Err(code::SLOPES),
+        Err(_) => Err(code::ARITHMETIC),
+    }
 }
 
 /// The rule for ranges that fails first on the case, if one does.

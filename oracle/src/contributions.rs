@@ -3,6 +3,7 @@
 use crate::record::Case;
 use crate::shims::feos_core::{StateHD, parameter::Parameters};
 use crate::shims::nalgebra::{DMatrix, DVector};
+use crate::shims::num_dual::DualNum;
 use uvtheory::parameters::{UVTheoryPars, UVTheoryRecord};
 use uvtheory::{BarkerHenderson, Perturbation, WeeksChandlerAndersen, WeeksChandlerAndersenB3};
 
@@ -21,7 +22,7 @@ pub fn contributions(case: &Case) -> [Number; 3] {
     let p = &combined(case);
     let state = &StateHD {
         temperature: Number::point(case.temperature),
-        partial_density: points(&case.partial_density),
+        partial_density: densities(case),
         molefracs: points(&case.molefracs),
     };
     let terms = match p.perturbation {
@@ -53,6 +54,12 @@ pub fn combined(case: &Case) -> UVTheoryPars {
     let n = case.substances.len();
     let k_ij = DMatrix::from_fn(n, n, |i, j| Number::point(case.k_ij(i, j)));
     UVTheoryPars::new(&Parameters::new(pure.collect(), k_ij), perturbation)
+}
+
+/// Along total density each partial density has the slope of its own fraction.
+fn densities(case: &Case) -> DVector<Number> {
+    let pairs = case.partial_density.iter().zip(&case.molefracs);
+    pairs.map(|(&v, &x)| Number::point(v).with_slope(x)).collect::<Vec<_>>().into()
 }
 
 fn points(values: &[f64]) -> DVector<Number> {

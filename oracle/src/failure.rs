@@ -1,5 +1,5 @@
 //! Whether an operation failed since the work began, and by which rule first: for doubles it is
-//! code 9, for ranges code 10.
+//! code 9, for ranges code 10, for slopes code 11.
 
 use std::cell::Cell;
 
@@ -18,6 +18,7 @@ pub enum Rule {
     UnderflowSides,
     TanhSides,
     OmegaSides,
+    Slope,
 }
 
 impl Rule {
@@ -35,6 +36,7 @@ impl Rule {
             Self::UnderflowSides => "exp meets either side of −700",
             Self::TanhSides => "tanh meets either side of ±20",
             Self::OmegaSides => "u_fraction_wca meets either side of 175",
+            Self::Slope => "a slope is not finite",
         }
     }
 }
@@ -44,10 +46,12 @@ thread_local! {
 }
 
 /// Records that a value on the path is not finite, or that a rule is missing or fails. The first
-/// counts: what is worked from a failed value may fail by any rule.
+/// counts: what is worked from a failed value may fail by any rule. But a value that fails comes
+/// before every slope.
 #[cold]
 pub fn fail(rule: Rule) {
-    FIRST.set(FIRST.get().or(Some(rule)));
+    let before = FIRST.get().filter(|&first| first != Rule::Slope);
+    FIRST.set(before.or(Some(rule)));
 }
 
 /// The result of the work, or the rule of its first operation that failed.

@@ -1,9 +1,10 @@
-//! The Rust that Noddyfir ports, compiled over doubles, over ranges and over exact readings, with
-//! document 01's records, answers and runs around it.
+//! The Rust that Noddyfir ports, compiled over doubles, over ranges, over values with slopes and over
+//! exact readings, with document 01's records, answers and runs around it.
 
 pub mod answer;
 pub mod constants;
 pub mod double;
+pub mod dual;
 pub mod failure;
 pub mod figures;
 pub mod generator;
@@ -28,6 +29,13 @@ pub mod over_doubles {
 #[allow(dead_code, unused_imports, unfulfilled_lint_expectations, clippy::duplicate_mod)]
 pub mod over_ranges {
     use crate::range::Range as Number;
+    include!("contributions.rs");
+}
+
+/// The ported text over values with slopes.
+#[allow(dead_code, unused_imports, unfulfilled_lint_expectations, clippy::duplicate_mod)]
+pub mod over_slopes {
+    use crate::dual::Dual as Number;
     include!("contributions.rs");
 }
 

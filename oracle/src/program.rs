@@ -1,4 +1,4 @@
-//! What the two programs share: standard input through runs to standard output.
+//! What the three programs share: standard input through runs to standard output.
 
 use crate::run::{Run, reason};
 use std::io::{Read, Result, Write, stdin, stdout};

@@ -12,6 +12,7 @@ pub mod code {
     pub const STATE: u8 = 8;
     pub const ARITHMETIC: u8 = 9;
     pub const ENDS: u8 = 10;
+    pub const SLOPES: u8 = 11;
 }
 
 /// The closed intervals of the fields; the first four are those of a substance.

@@ -1,6 +1,7 @@
 //! A run: whole records read one after the other, their answers written one after the other.
 
-use crate::answer::{ENDS_ROOM, ENERGIES_ROOM, answer_ends, answer_energies};
+use crate::answer::{ENDS_ROOM, ENERGIES_ROOM, SLOPES_ROOM};
+use crate::answer::{answer_ends, answer_energies, answer_slopes};
 use crate::record::length;
 
 /// Why a run stopped, in the order in which the reasons are tested.
@@ -25,6 +26,10 @@ pub fn run_energies(records: &[u8], answers: &mut [u8]) -> Run {
 
 pub fn run_ends(records: &[u8], answers: &mut [u8]) -> Run {
     run(records, answers, ENDS_ROOM, answer_ends)
+}
+
+pub fn run_slopes(records: &[u8], answers: &mut [u8]) -> Run {
+    run(records, answers, SLOPES_ROOM, answer_slopes)
 }
 
 fn run(records: &[u8], answers: &mut [u8], room: usize, call: fn(&[u8], &mut [u8]) -> u8) -> Run {

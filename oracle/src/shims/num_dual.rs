@@ -1,5 +1,5 @@
-//! num_dual's trait, with the operations that the ported text calls. A value of ours has no
-//! derivatives, so `Primitive` is always the type itself.
+//! num_dual's trait, with the operations that the ported text calls. `Primitive` is always the type
+//! itself, also for values with slopes: a parameter is one whose slope is 0.
 
 use std::ops::{Add, AddAssign, Div, Mul, MulAssign, Neg, Sub};
 
@@ -23,6 +23,11 @@ pub trait DualNum:
     fn zero() -> Self;
     fn one() -> Self;
     fn re(self) -> Self::Primitive;
+
+    /// An input that starts with a slope, for types that have one.
+    fn with_slope(self, _slope: f64) -> Self {
+        self
+    }
 
     fn sqrt(self) -> Self;
     fn ln(self) -> Self;
