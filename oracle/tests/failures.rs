@@ -1,6 +1,7 @@
 //! The rule that fails first, and the operation at which a 12-6 substance has no ends.
 
 use oracle::answer::failing_rule;
+use oracle::dual::Dual;
 use oracle::failure::{Rule, or_first_failure};
 use oracle::range::Range;
 use oracle::record::Case;
@@ -46,6 +47,8 @@ fn each_rule_is_named() {
     assert_eq!(rule(|| around(20.0).tanh()), Some(Rule::TanhSides));
     let below = or_first_failure(|| around(175.0) < point(175.0));
     assert_eq!(below, Err(Rule::OmegaSides));
+    let root = or_first_failure(|| Dual::point(0.0).sqrt());
+    assert_eq!(root.err(), Some(Rule::Slope));
     assert_eq!(rule(|| point(1.0) + point(1.0)), None);
 }
 

@@ -4,6 +4,7 @@ mod damaged;
 mod limits;
 mod realistic;
 mod sparse;
+mod steep;
 mod thresholds;
 mod wide;
 
@@ -11,7 +12,7 @@ use crate::random::Random;
 use crate::record::Case;
 
 /// The kinds of record by name.
-pub const KINDS: [(&str, Kind); 7] = [
+pub const KINDS: [(&str, Kind); 8] = [
     ("realistic", |random| realistic::case(random).record()),
     ("wide", |random| wide::case(random).record()),
     ("limits", |random| limits::case(random).record()),
@@ -19,6 +20,7 @@ pub const KINDS: [(&str, Kind); 7] = [
     ("zero-density", |random| sparse::without_density(random).record()),
     ("zero-fraction", |random| sparse::without_fraction(random).record()),
     ("damaged", damaged::record),
+    ("steep", |random| steep::case(random).record()),
 ];
 
 /// Makes one record.
