@@ -12,6 +12,7 @@ pub fn records() -> Vec<u8> {
         zeros(),
         without_rule(),
         thresholds(),
+        steep(),
     ];
     parts.concat().concat()
 }
@@ -171,6 +172,31 @@ fn thresholds() -> Vec<Vec<u8>> {
         for density in [0.019, 0.0195, 0.02, 0.0205, 0.03, 0.08, 0.085, 0.09] {
             records.push(pure(perturbation, [12.65, 6.0, 3.0, 10.0], 4000.0, density).record());
         }
+    }
+    records
+}
+
+/// Code 11 of slopes: under BH densities whose ln is too steep, and virial coefficients near the
+/// greatest doubles. And small densities that have slopes.
+fn steep() -> Vec<Vec<u8>> {
+    let mut records = Vec::new();
+    let methane = SUBSTANCES[1];
+    for perturbation in PERTURBATIONS {
+        let smallest = f64::from_bits(1);
+        for density in [smallest, f64::MIN_POSITIVE, 2.37e-308, 2.39e-308, 1e-250, 1e-72] {
+            records.push(pure(perturbation, methane, 300.0, density).record());
+        }
+        for density in [0.0, 0.0002] {
+            let large = |epsilon_k| pure(perturbation, [12.65, 6.0, 10.0, epsilon_k], 2.0, density);
+            records.extend([1370.0, 1390.0, 1396.0].map(|epsilon_k| large(epsilon_k).record()));
+        }
+        let mut case = mixture(perturbation, 2, 300.0, 0.0);
+        case.partial_density = vec![smallest, 0.0];
+        records.push(case.record());
+        // Fractions that do not belong to the densities.
+        case = mixture(perturbation, 2, 300.0, 0.0);
+        (case.partial_density, case.molefracs) = (vec![0.001, 0.002], vec![1.0, -0.0]);
+        records.push(case.record());
     }
     records
 }

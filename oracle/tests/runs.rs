@@ -1,7 +1,7 @@
-//! Runs, and the two programs on standard input.
+//! Runs, and the three programs on standard input.
 
 use oracle::record::split;
-use oracle::run::{Run, run_ends, run_energies};
+use oracle::run::{Run, run_ends, run_energies, run_slopes};
 use oracle::{generator, random::Random, stored};
 use std::io::Write;
 use std::process::{Command, Stdio};
@@ -15,6 +15,7 @@ fn the_seven_byte_run() {
     assert_eq!(run, Run { records: 2, read: 7, written: 8, reason: 0 });
     assert_eq!(answers[..9], [0, 2, 1, 2, 0, 2, 1, 5, 0xAA]);
     assert_eq!(run_ends(&SEVEN_BYTES, &mut answers), run);
+    assert_eq!(run_slopes(&SEVEN_BYTES, &mut answers), run);
 }
 
 #[test]
@@ -26,23 +27,37 @@ fn reasons_in_their_order() {
     assert_eq!(reason(&[0, 0], 27), 1);
     assert_eq!(reason(&[0, 0], 28), 0);
     // A refusal takes four bytes, but needs the room of a whole answer.
-    let run = run_energies(&[0; 4], &mut [0; 31]);
-    assert_eq!(run, Run { records: 1, read: 2, written: 4, reason: 1 });
+    let expected = Run { records: 1, read: 2, written: 4, reason: 1 };
+    assert_eq!(run_energies(&[0; 4], &mut [0; 31]), expected);
+    for run in [run_ends, run_slopes] {
+        assert_eq!(run(&[0; 4], &mut [0; 55]), expected);
+        assert_eq!(run(&[0; 4], &mut [0; 56]).reason, 0);
+    }
 }
 
 #[test]
 fn a_run_resumed_for_space_gives_the_same_answers() {
     let records = stored::records();
-    let mut whole = vec![0; 65_536];
-    let all = run_energies(&records, &mut whole);
-    let mut resumed = Vec::new();
-    let (mut read, mut answers) = (0, [0; 61]);
-    while read < records.len() {
-        let run = run_energies(&records[read..], &mut answers);
-        resumed.extend_from_slice(&answers[..run.written]);
-        read += run.read;
+    for run in [run_energies, run_ends, run_slopes] {
+        let mut whole = vec![0; 65_536];
+        let all = run(&records, &mut whole);
+        let mut resumed = Vec::new();
+        let (mut read, mut answers) = (0, [0; 61]);
+        while read < records.len() {
+            let part = run(&records[read..], &mut answers);
+            resumed.extend_from_slice(&answers[..part.written]);
+            read += part.read;
+        }
+        assert_eq!(resumed, whole[..all.written]);
     }
-    assert_eq!(resumed, whole[..all.written]);
+}
+
+fn program_path(name: &str) -> &'static str {
+    match name {
+        "energies" => env!("CARGO_BIN_EXE_energies"),
+        "ends" => env!("CARGO_BIN_EXE_ends"),
+        _ => env!("CARGO_BIN_EXE_slopes"),
+    }
 }
 
 fn program(path: &str, arguments: &[&str], input: &[u8]) -> Vec<u8> {
@@ -64,7 +79,7 @@ fn program(path: &str, arguments: &[&str], input: &[u8]) -> Vec<u8> {
 
 #[test]
 fn programs() {
-    let paths = [env!("CARGO_BIN_EXE_energies"), env!("CARGO_BIN_EXE_ends")];
+    let paths = ["energies", "ends", "slopes"].map(program_path);
     for path in paths {
         assert_eq!(program(path, &[], &SEVEN_BYTES), [0, 2, 1, 2, 0, 2, 1, 5]);
         let broken = [&SEVEN_BYTES[..], &[0, 9, 1]].concat();
@@ -98,9 +113,12 @@ fn the_program_of_readings() {
 fn the_stored_list_fits_a_run() {
     let records = stored::records();
     assert!(records.len() <= 65_536);
-    let answers = program(env!("CARGO_BIN_EXE_ends"), &[], &records);
-    let codes: Vec<u8> = split(&answers).map(|answer| answer[3]).collect();
-    assert!((2..=10).chain([0]).all(|code| codes.contains(&code)));
+    let last_codes = [("energies", 9), ("ends", 10), ("slopes", 11)];
+    for (name, last) in last_codes {
+        let answers = program(program_path(name), &[], &records);
+        let codes: Vec<u8> = split(&answers).map(|answer| answer[3]).collect();
+        assert!((2..=9).chain([0, last]).all(|code| codes.contains(&code)), "{name}");
+    }
 }
 
 #[test]
