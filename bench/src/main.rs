@@ -1,5 +1,5 @@
-//! Energies and ends per second through the proved static library and through the Rust that it ports,
-//! on the same records in one run. It prints tables and judges no speed: that depends on the machine.
+//! Energies, ends and slopes per second through the proved static library and through the Rust that it
+//! ports, on the same records in one run. It prints tables and judges no speed: that depends on the machine.
 
 mod noddyfir;
 mod row;
@@ -22,7 +22,7 @@ fn main() -> ExitCode {
         );
         return ExitCode::FAILURE;
     }
-    println!("The same energies and ends from both on {records} records. {ROUNDS} rounds.");
+    println!("The same energies, ends and slopes from both on {records} records. {ROUNDS} rounds.");
     // A round measures every row, so that another program's burst of work does not fall on one row alone.
     for round in 0..ROUNDS {
         rows.iter_mut().for_each(|row| row.measure(round));

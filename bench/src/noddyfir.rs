@@ -8,6 +8,9 @@ unsafe extern "C" {
 
     #[link_name = "noddyfir_ends"]
     fn ends(record: *const u8, record_len: usize, answer: *mut u8, answer_len: usize) -> u8;
+
+    #[link_name = "noddyfir_slopes"]
+    fn slopes(record: *const u8, record_len: usize, answer: *mut u8, answer_len: usize) -> u8;
 }
 
 pub fn answer_energies(record: &[u8], answer: &mut [u8]) -> u8 {
@@ -18,4 +21,9 @@ pub fn answer_energies(record: &[u8], answer: &mut [u8]) -> u8 {
 pub fn answer_ends(record: &[u8], answer: &mut [u8]) -> u8 {
     // Safe, as above.
     unsafe { ends(record.as_ptr(), record.len(), answer.as_mut_ptr(), answer.len()) }
+}
+
+pub fn answer_slopes(record: &[u8], answer: &mut [u8]) -> u8 {
+    // Safe, as above.
+    unsafe { slopes(record.as_ptr(), record.len(), answer.as_mut_ptr(), answer.len()) }
 }
