@@ -177,7 +177,8 @@ fn thresholds() -> Vec<Vec<u8>> {
 }
 
 /// Code 11 of slopes: under BH densities whose ln is too steep, and virial coefficients near the
-/// greatest doubles. And small densities that have slopes.
+/// greatest doubles; and 9, where a slope fails first and then a value. And small densities that
+/// have slopes.
 fn steep() -> Vec<Vec<u8>> {
     let mut records = Vec::new();
     let methane = SUBSTANCES[1];
@@ -186,7 +187,7 @@ fn steep() -> Vec<Vec<u8>> {
         for density in [smallest, f64::MIN_POSITIVE, 2.37e-308, 2.39e-308, 1e-250, 1e-72] {
             records.push(pure(perturbation, methane, 300.0, density).record());
         }
-        for density in [0.0, 0.0002] {
+        for density in [0.0, smallest, 0.0002] {
             let large = |epsilon_k| pure(perturbation, [12.65, 6.0, 10.0, epsilon_k], 2.0, density);
             records.extend([1370.0, 1390.0, 1396.0].map(|epsilon_k| large(epsilon_k).record()));
         }

@@ -206,6 +206,15 @@ fn a_virial_coefficient_too_great_for_a_slope() {
     assert!(energies.iter().all(|energy| *energy == 0.0));
 }
 
+/// BH's logarithm of the density fails in its slope, and later the virial coefficient in its value.
+#[test]
+fn a_slope_fails_before_a_value() {
+    let cold = |epsilon_k| pure(0, [12.65, 6.0, 10.0, epsilon_k], 2.0, f64::from_bits(1));
+    assert_eq!(slopes(&cold(1300.0)), Err(code::SLOPES));
+    assert_eq!(slopes(&cold(1396.0)), Err(code::ARITHMETIC));
+    assert_eq!(energies(&cold(1396.0)), Err(code::ARITHMETIC));
+}
+
 /// The values are the energies to the bit, 9 is theirs, and 11 comes only where there are energies.
 #[test]
 fn values_are_the_energies() {

@@ -64,13 +64,14 @@ fn full(random: &mut Random, case: &mut Case) {
     }
 }
 
-/// 1/t up to 700, where a virial coefficient is near the greatest doubles, at densities from 0 on.
+/// 1/t up to 700, where a virial coefficient is near the greatest doubles or beyond them, at densities
+/// from 0 on. Under BH the smallest of these have a steep logarithm before a value fails.
 fn cold(random: &mut Random, case: &mut Case) {
     let epsilon_k = random.between([710.0, 4900.0]);
     let sigma = random.between([2.0, 10.0]);
     case.substances.iter_mut().for_each(|s| (s[2], s[3]) = (sigma, epsilon_k));
     case.pairs.fill(0.0);
     case.temperature = epsilon_k / random.between([680.0, 700.0]);
-    let reduced_density = random.pick(&[0.0, 1e-9, 1e-3, 0.5]) * random.unit();
+    let reduced_density = random.pick(&[0.0, 1e-306, 1e-9, 1e-3, 0.5]) * random.unit();
     set_density(case, reduced_density);
 }
