@@ -7,7 +7,13 @@ use crate::record::{Case, interval};
 
 pub fn case(random: &mut Random) -> Case {
     let mut case = if random.once_in(4) { wide::case(random) } else { realistic::case(random) };
-    let change = random.pick(&[small, small, vanishing_powers, full, cold]);
+    let change = match random.below(12) {
+        0..4 => small,
+        4..6 => vanishing_powers,
+        6..8 => full,
+        8..11 => cold,
+        _ => slope_then_value,
+    };
     change(random, &mut case);
     case
 }
@@ -64,14 +70,21 @@ fn full(random: &mut Random, case: &mut Case) {
     }
 }
 
-/// 1/t up to 700, where a virial coefficient is near the greatest doubles or beyond them, at densities
-/// from 0 on. Under BH the smallest of these have a steep logarithm before a value fails.
+/// 1/t up to 700, where a virial coefficient is near the greatest doubles, at densities from 0 on.
 fn cold(random: &mut Random, case: &mut Case) {
     let epsilon_k = random.between([710.0, 4900.0]);
     let sigma = random.between([2.0, 10.0]);
     case.substances.iter_mut().for_each(|s| (s[2], s[3]) = (sigma, epsilon_k));
     case.pairs.fill(0.0);
     case.temperature = epsilon_k / random.between([680.0, 700.0]);
-    let reduced_density = random.pick(&[0.0, 1e-306, 1e-9, 1e-3, 0.5]) * random.unit();
+    let reduced_density = random.pick(&[0.0, 1e-9, 1e-3, 0.5]) * random.unit();
     set_density(case, reduced_density);
+}
+
+/// BH's logarithm has a slope that is not finite, and the virial coefficient, worked later, no value.
+fn slope_then_value(random: &mut Random, case: &mut Case) {
+    case.perturbation = 0;
+    cold(random, case);
+    case.temperature = case.substances[0][3] / random.between([701.0, 709.0]);
+    share(case, random.unit() * f64::MIN_POSITIVE);
 }
