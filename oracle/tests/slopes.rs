@@ -139,7 +139,7 @@ fn a_failing_value_comes_before_a_slope() {
 fn cases_are_chosen_by_the_value() {
     let limit = Dual::point(175.0);
     assert!(dual(175.0_f64.next_down(), 9.0) < limit);
-    assert!(!(dual(175.0, -9.0) < limit));
+    assert!(dual(175.0, -9.0) >= limit);
 }
 
 #[test]
