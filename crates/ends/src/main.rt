@@ -1,4 +1,6 @@
 // Answers the case records of standard input by their ends.
+use noddyfir::call::Kind;
+
 fn main() {
-    program::answer_input(true);
+    program::answer_input(Kind::Ends);
 }

@@ -1,4 +1,6 @@
 // Answers the case records of standard input by their energies.
+use noddyfir::call::Kind;
+
 fn main() {
-    program::answer_input(false);
+    program::answer_input(Kind::Energies);
 }

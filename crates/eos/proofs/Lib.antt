@@ -2,4 +2,4 @@
 mod Choice
 pub mod Sent
 pub mod Agreement
-pub mod Slopes
+pub mod Sloped

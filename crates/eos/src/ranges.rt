@@ -16,10 +16,15 @@ ghost use Rattle.eos.specs.Sent.{contributions};
 fn sent(s: State) -> uvtheory_range::parameters::State
     ensures { λ r. ⌜ Held.state r ≡ state ranges s ⌝ }
 {
+    let d = s.partial_density;
+    let x = s.molefracs;
+    let temperature = Range::constant(s.temperature);
+    let partial_density = constants(d);
+    let molefracs = constants(x);
     uvtheory_range::parameters::State {
-        temperature: Range::constant(s.temperature),
-        partial_density: constants(s.partial_density),
-        molefracs: constants(s.molefracs),
+        temperature,
+        partial_density,
+        molefracs,
     }
 }
 

@@ -56,10 +56,15 @@ fn starts(d: [f64; 8], x: [f64; 8]) -> [Dual; 8]
 fn started(s: State) -> uvtheory_dual::parameters::State
     ensures { λ r. ⌜ Held.state r ≡ Slopes.state plain s ⌝ }
 {
+    let d = s.partial_density;
+    let x = s.molefracs;
+    let temperature = Dual::constant(s.temperature);
+    let partial_density = starts(d, x);
+    let molefracs = constants(x);
     uvtheory_dual::parameters::State {
-        temperature: Dual::constant(s.temperature),
-        partial_density: starts(s.partial_density, s.molefracs),
-        molefracs: constants(s.molefracs),
+        temperature,
+        partial_density,
+        molefracs,
     }
 }
 

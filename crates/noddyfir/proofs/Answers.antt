@@ -1,7 +1,7 @@
 -- The answer to a record: what the code works is what the definition says, and an answer has as many bytes as its code says.
 use Prim.Native.Nat.{ℕ, _≤_}
 use native.Mathlib.Omega.{arith}
-use mathlib.Core.Path.{_≡_, refl, sym, ap, _∙_, subst⁻¹}
+use mathlib.Core.Path.{_≡_, refl, sym, ap, _∙_, subst, subst⁻¹}
 use mathlib.Core.List.{List}
 use lib.ListN.{length}
 use lib.Dec.{T, eqb, eqb→eq}
@@ -9,167 +9,195 @@ use borrow.Author.Tests.{eq-eqb, ne-eqb}
 use mathlib.Core.Bool.{Bool, true, false, _&&_, cond}
 use lib.Ieee.{Float, nan, inf, fin}
 use lib.Ieee.Scale.{finite}
-use Rattle.arithmetic.specs.Doubles.{checked, guarded}
+use Rattle.arithmetic.specs.Doubles.{checked, doubles, guarded}
+use Rattle.range.specs.declared.basic.Range.{Range}
+use Rattle.range.specs.Rules.{ranges}
+use Rattle.range.specs.Rules as Range
+use Rattle.dual.specs.declared.basic.Dual.{Dual}
+use Rattle.dual.specs.Rules.{strict, plain}
+use Rattle.dual.specs.Rules as Dual
+use Rattle.dual.proofs.Agreement.{Same, ok-kept, in-code}
 use Rattle.uvtheory.specs.Contributions.{Contributions}
-use Rattle.eos.specs.Sent.{contributions}
 use Rattle.uvtheory.specs.declared.contributions.Contributions.{Contributions as Held}
 use Rattle.uvtheory.specs.Held.{ContributionsOf}
-use Rattle.range.specs.declared.basic.Range.{Range}
-use Rattle.range.specs.Rules.{ok, ranges}
-use Rattle.uvtheory_range.specs.declared.contributions.Contributions.{Contributions as HeldEnds}
-use Rattle.uvtheory_range.specs.Held.{ContributionsOf as EndsHeld}
-use Rattle.uvtheory.proofs.Agreement.{Agree, contributions-agree}
-use Rattle.case_record.specs.declared.answer.Energies.{Energies}
-use Rattle.case_record.specs.declared.answer.Energies.the-variants.{Values, Refused}
-use Rattle.case_record.specs.declared.answer.Ends.{Ends}
-use Rattle.case_record.specs.declared.answer.Ends.the-variants.{Values as Ranges, Refused as NoEnds}
+use Rattle.uvtheory_range.specs.declared.contributions.Contributions.{Contributions as HeldRanges}
+use Rattle.uvtheory_range.specs.Held.{ContributionsOf as RangesOf}
+use Rattle.uvtheory_dual.specs.declared.contributions.Contributions.{Contributions as HeldDuals}
+use Rattle.uvtheory_dual.specs.Held.{ContributionsOf as DualsOf}
+use Rattle.eos.specs.Sent.{contributions}
+use Rattle.eos.specs.Slopes as Slopes
+use Rattle.eos.proofs.Agreement.{contributions-agree}
+use Rattle.eos.proofs.Sloped as Sloped
 use Rattle.case_record.specs.declared.case.Case.{Case}
 use Rattle.case_record.specs.Bytes.{bytesOf, doubleBytes}
 use Rattle.case_record.specs.Record.{caseOf}
 use Rattle.case_record.specs.Checks.{refusalOf}
-use Rattle.case_record.specs.Answer.{answerBytes, codeOf, endsBytes, endsCode}
-use Rattle.noddyfir.specs.Call.{afterEnergies, answerOf, answerTo, codeTo, endsAnswer, endsAnswerOf, endsOf, energiesAnswer, energiesOf, finiteOr9, okOr10, roomOf}
+use Rattle.answer.specs.declared.Answer.{Answer}
+use Rattle.answer.specs.declared.Answer.the-variants.{Energies, Ends, Slopes, Refused}
+use Rattle.answer.specs.Answer.{answerBytes, codeOf}
+use Rattle.noddyfir.specs.declared.call.Kind.{Kind}
+use Rattle.noddyfir.specs.declared.call.Kind.the-variants.{Energies as ForEnergies, Ends as ForEnds, Slopes as ForSlopes}
+use Rattle.noddyfir.specs.Call.{all, answerOf, answerTo, codeTo, endsOf, energiesOf, finiteOr9, finiteOr9Or11, okOr10, roomOf, slopesOf, workedOf}
 use Rattle.noddyfir.specs.Run.{sizeOf}
 
-module _ (s : List ℕ) where
-  pub refused : (refusalOf s ≡ 0 → ⊥) → answerOf s ≡ Refused (refusalOf s)
+-- ---- by whether a check refuses the record
+module _ (kind : Kind) (s : List ℕ) where
+  pub refused : (refusalOf s ≡ 0 → ⊥) → answerOf kind s ≡ Refused (refusalOf s)
   unfolding answerOf
   refused h = simp (ne-eqb (refusalOf s) 0 h)
 
-  pub accepted : refusalOf s ≡ 0 → answerOf s ≡ energiesOf (caseOf s)
+  pub accepted : refusalOf s ≡ 0 → answerOf kind s ≡ workedOf kind (caseOf s)
   unfolding answerOf
   accepted h = simp (eq-eqb (refusalOf s) 0 h)
 
-  -- where there are energies, no check refuses
-  pub passed : {x y z : Float} → answerOf s ≡ Values x y z → refusalOf s ≡ 0
-  unfolding answerOf
-  passed {x} {y} {z} = go (eqb (refusalOf s) 0) refl
-    where
-      go : (b : Bool) → eqb (refusalOf s) 0 ≡ b → cond b (energiesOf (caseOf s)) (Refused (refusalOf s)) ≡ Values x y z → refusalOf s ≡ 0
-      go true e q = eqb→eq (refusalOf s) 0 (subst⁻¹ T e tt)
-      go false e q = let z : _≡_ {A = ℕ} 0 1 = cc in absurd (omega arith)
+-- ---- three tests
+both-ways : {p q r p′ q′ r′ : Bool} → p ≡ p′ → q ≡ q′ → r ≡ r′ → p && q && r ≡ p′ && q′ && r′
+both-ways h k l = rw (h, k, l)
 
-  pub ends-worked : {x y z : Float} → answerOf s ≡ Values x y z → endsAnswerOf s ≡ endsOf (caseOf s)
-  unfolding endsAnswerOf
-  ends-worked e = rw e
-
-  pub ends-refused : {code : ℕ} → answerOf s ≡ Refused code → endsAnswerOf s ≡ NoEnds code
-  unfolding endsAnswerOf
-  ends-refused e = rw e
+first : (p q r : Bool) → p && q && r ≡ true → T p × T q × T r
+first true true true e = (tt, tt, tt)
+first true true false e = subst T (sym e) tt
+first true false r e = subst T (sym e) tt
+first false q r e = subst T (sym e) tt
 
 -- ---- The code tests its three energies once. The definition's are NaN from the first value on that is not finite. The answers are the same.
-abbrev pub three : Float → Float → Float → Energies
-three x y z = cond (finite x && finite y && finite z) (Values x y z) (Refused 9)
+finite-checked : (x : Float) → finite x ≡ finite (checked x)
+finite-checked nan = refl
+finite-checked (inf s) = refl
+finite-checked (fin s m e) = refl
 
-checked-three : (x y z : Float) → three x y z ≡ three (checked x) (checked y) (checked z)
-checked-three nan y z = refl
-checked-three (inf s) y z = refl
-checked-three (fin s m e) nan z = refl
-checked-three (fin s m e) (inf t) z = refl
-checked-three (fin s m e) (fin t n f) nan = refl
-checked-three (fin s m e) (fin t n f) (inf u) = refl
-checked-three (fin s m e) (fin t n f) (fin u o g) = refl
+checked-is : (x : Float) → T (finite x) → x ≡ checked x
+checked-is nan h = absurd h
+checked-is (inf s) h = absurd h
+checked-is (fin s m e) h = refl
 
-agree : (g d : Contributions Float) → Agree g d → three (g .hard-sphere) (g .reference) (g .attractive) ≡ finiteOr9 d
-unfolding finiteOr9
-agree g d a = checked-three (g .hard-sphere) (g .reference) (g .attractive) ∙ rw (a .hard-sphere-is, a .reference-is, a .attractive-is)
+-- of one energy: the code holds h, works g, and the definition has d
+module _ {h g d : Float} (held : h ≡ g) (agrees : checked g ≡ d) where
+  test-is : finite h ≡ finite d
+  test-is = ap finite held ∙ finite-checked g ∙ ap finite agrees
 
--- what the code works
-abbrev worked : Case → Contributions Float
-worked c = contributions guarded (c .perturbation) (c .mixture) (c .state)
+  value-is : T (finite h) → h ≡ d
+  value-is k = held ∙ checked-is g (subst (λ (x : Float). T (finite x)) held k) ∙ agrees
 
-its-energies : (c : Case) → three (worked c .hard-sphere) (worked c .reference) (worked c .attractive) ≡ energiesOf c
-unfolding energiesOf contributions
-its-energies c = agree _ _ (contributions-agree (c .perturbation) (c .mixture) (c .state))
+module _ (c : Case) {e : Held} (are : ContributionsOf e (contributions guarded (c .perturbation) (c .mixture) (c .state))) {b : Bool}
+    (b-is : b ≡ finite (e .«hard_sphere») && finite (e .reference) && finite (e .attractive)) where
+  abbrev d : Contributions Float
+  d = contributions doubles (c .perturbation) (c .mixture) (c .state)
 
--- the three energies e that the code works for a case c, and its tests p, q and r of them
-module _ (c : Case) {e : Held} (are : ContributionsOf e (worked c)) where
-  abbrev x : Float
-  x = e .«hard_sphere»
+  tested : b ≡ all finite d
+  tested =
+      let a = contributions-agree (c .perturbation) (c .mixture) (c .state) in
+      b-is ∙ both-ways (test-is (are .hard-sphere-is) (a .hard-sphere-is)) (test-is (are .reference-is) (a .reference-is)) (test-is (are .attractive-is) (a .attractive-is))
 
-  abbrev y : Float
-  y = e .reference
+  pub all-finite : b ≡ true → Energies (e .«hard_sphere») (e .reference) (e .attractive) ≡ energiesOf c
+  unfolding energiesOf finiteOr9
+  all-finite h =
+      let a = contributions-agree (c .perturbation) (c .mixture) (c .state) in
+      let t = first (finite (e .«hard_sphere»)) (finite (e .reference)) (finite (e .attractive)) (sym b-is ∙ h) in
+      rw (sym tested ∙ h, value-is (are .hard-sphere-is) (a .hard-sphere-is) (t .0), value-is (are .reference-is) (a .reference-is) (t .1), value-is (are .attractive-is) (a .attractive-is) (t .2))
 
-  abbrev z : Float
-  z = e .attractive
+  pub not-all-finite : b ≡ false → Refused 9 ≡ energiesOf c
+  unfolding energiesOf finiteOr9
+  not-all-finite h = rw (sym tested ∙ h)
 
-  as-worked : three x y z ≡ energiesOf c
-  as-worked = rw (are .hard-sphere-is, are .reference-is, are .attractive-is) (its-energies c)
+  -- and of the ends, by the same test
+  pub ends-worked : b ≡ true → okOr10 (contributions ranges (c .perturbation) (c .mixture) (c .state)) ≡ endsOf c
+  unfolding endsOf
+  ends-worked h = rw (sym tested ∙ h)
 
-  module _ {p q r : Bool} (p-is : p ≡ finite x) (q-is : q ≡ finite y) (r-is : r ≡ finite z) where
-    tests : {b : Bool} → p && q && r ≡ b → finite x && finite y && finite z ≡ b
-    tests h = cc
+  pub no-ends : b ≡ false → Refused 9 ≡ endsOf c
+  unfolding endsOf
+  no-ends h = rw (sym tested ∙ h)
 
-    pub all-finite : p && q && r ≡ true → Values x y z ≡ energiesOf c
-    all-finite h = sym (ap (λ (b : Bool). cond b (Values x y z) (Refused 9)) (tests h)) ∙ as-worked
+-- ---- the three ranges
+module _ {e : HeldRanges} {r : Contributions Range} (are : RangesOf e r) {b : Bool} (b-is : b ≡ Range.ok (e .«hard_sphere») && Range.ok (e .reference) && Range.ok (e .attractive)) where
+  ranges-tested : b ≡ all Range.ok r
+  ranges-tested = b-is ∙ rw (are .hard-sphere-is, are .reference-is, are .attractive-is)
 
-    pub not-all-finite : p && q && r ≡ false → Refused 9 ≡ energiesOf c
-    not-all-finite h = sym (ap (λ (b : Bool). cond b (Values x y z) (Refused 9)) (tests h)) ∙ as-worked
+  pub all-ok : b ≡ true → Ends (e .«hard_sphere») (e .reference) (e .attractive) ≡ okOr10 r
+  unfolding okOr10
+  all-ok h = rw (sym ranges-tested ∙ h, are .hard-sphere-is, are .reference-is, are .attractive-is)
 
--- ---- and the three ranges
-module _ (c : Case) {e : HeldEnds} (are : EndsHeld e (contributions ranges (c .perturbation) (c .mixture) (c .state))) where
-  its-ends : cond (ok (e .«hard_sphere») && ok (e .reference) && ok (e .attractive)) (Ranges (e .«hard_sphere») (e .reference) (e .attractive)) (NoEnds 10) ≡ endsOf c
-  unfolding endsOf okOr10
-  its-ends = rw (are .hard-sphere-is, are .reference-is, are .attractive-is)
+  pub not-all-ok : b ≡ false → Refused 10 ≡ okOr10 r
+  unfolding okOr10
+  not-all-ok h = rw (sym ranges-tested ∙ h)
 
-  module _ {p q r : Bool} (p-is : p ≡ ok (e .«hard_sphere»)) (q-is : q ≡ ok (e .reference)) (r-is : r ≡ ok (e .attractive)) where
-    all : {b : Bool} → p && q && r ≡ b → ok (e .«hard_sphere») && ok (e .reference) && ok (e .attractive) ≡ b
-    all h = cc
+-- ---- the three with slopes: the code holds h, works g, and the definition has d
+module _ {h g d : Dual} (held : h ≡ g) (agrees : Same g d) where
+  dual-tested : Dual.ok h ≡ Dual.ok d
+  dual-tested = ap Dual.ok held ∙ ok-kept agrees
 
-    pub all-ok : p && q && r ≡ true → Ranges (e .«hard_sphere») (e .reference) (e .attractive) ≡ endsOf c
-    all-ok h = sym (ap (λ (b : Bool). cond b (Ranges (e .«hard_sphere») (e .reference) (e .attractive)) (NoEnds 10)) (all h)) ∙ its-ends
+  dual-is : T (Dual.ok h) → h ≡ d
+  dual-is k = held ∙ in-code agrees (subst (λ (x : Dual). T (Dual.ok x)) held k)
 
-    pub not-all-ok : p && q && r ≡ false → NoEnds 10 ≡ endsOf c
-    not-all-ok h = sym (ap (λ (b : Bool). cond b (Ranges (e .«hard_sphere») (e .reference) (e .attractive)) (NoEnds 10)) (all h)) ∙ its-ends
+  dual-value-tested : finite (h .value) ≡ finite (d .value)
+  dual-value-tested = ap (λ (x : Dual). finite (x .value)) held ∙ finite-checked (g .value) ∙ ap (λ (x : Dual). finite (x .value)) (agrees .is)
+
+ok-value : (x : Dual) → T (Dual.ok x) → finite (x .value) ≡ true
+ok-value x = go (finite (x .value)) (finite (x .slope))
+  where
+    go : (p q : Bool) → T (p && q) → p ≡ true
+    go true q h = refl
+    go false q h = absurd h
+
+module _ (c : Case) {e : HeldDuals} (are : DualsOf e (Slopes.contributions plain (c .perturbation) (c .mixture) (c .state))) where
+  abbrev sloped : Contributions Dual
+  sloped = Slopes.contributions strict (c .perturbation) (c .mixture) (c .state)
+
+  module _ {b : Bool} (b-is : b ≡ Dual.ok (e .«hard_sphere») && Dual.ok (e .reference) && Dual.ok (e .attractive)) where
+    slopes-tested : b ≡ all Dual.ok sloped
+    slopes-tested =
+        let a = Sloped.contributions-agree (c .perturbation) (c .mixture) (c .state) in
+        b-is ∙ both-ways (dual-tested (are .hard-sphere-is) (a .hard-sphere-is)) (dual-tested (are .reference-is) (a .reference-is)) (dual-tested (are .attractive-is) (a .attractive-is))
+
+    pub all-sloped : b ≡ true → Slopes (e .«hard_sphere») (e .reference) (e .attractive) ≡ slopesOf c
+    unfolding slopesOf finiteOr9Or11
+    all-sloped h =
+        let a = Sloped.contributions-agree (c .perturbation) (c .mixture) (c .state) in
+        let t = first (Dual.ok (e .«hard_sphere»)) (Dual.ok (e .reference)) (Dual.ok (e .attractive)) (sym b-is ∙ h) in
+        let x = dual-is (are .hard-sphere-is) (a .hard-sphere-is) (t .0) in
+        let y = dual-is (are .reference-is) (a .reference-is) (t .1) in
+        let z = dual-is (are .attractive-is) (a .attractive-is) (t .2) in
+        let v = both-ways (ap (λ (d : Dual). finite (d .value)) (sym x) ∙ ok-value (e .«hard_sphere») (t .0)) (ap (λ (d : Dual). finite (d .value)) (sym y) ∙ ok-value (e .reference) (t .1)) (ap (λ (d : Dual). finite (d .value)) (sym z) ∙ ok-value (e .attractive) (t .2)) in
+        rw (v, sym slopes-tested ∙ h, x, y, z)
+
+    module _ {v : Bool} (v-is : v ≡ finite (e .«hard_sphere» .value) && finite (e .reference .value) && finite (e .attractive .value)) (h : b ≡ false) where
+      values-tested : v ≡ all (λ (x : Dual). finite (x .value)) sloped
+      values-tested =
+          let a = Sloped.contributions-agree (c .perturbation) (c .mixture) (c .state) in
+          v-is ∙ both-ways (dual-value-tested (are .hard-sphere-is) (a .hard-sphere-is)) (dual-value-tested (are .reference-is) (a .reference-is)) (dual-value-tested (are .attractive-is) (a .attractive-is))
+
+      pub slope-fails : v ≡ true → Refused 11 ≡ slopesOf c
+      unfolding slopesOf finiteOr9Or11
+      slope-fails k = rw (sym values-tested ∙ k, sym slopes-tested ∙ h)
+
+      pub value-fails : v ≡ false → Refused 9 ≡ slopesOf c
+      unfolding slopesOf finiteOr9Or11
+      value-fails k = rw (sym values-tested ∙ k)
 
 -- ---- an answer has as many bytes as its code says
-Sized : Energies → Type 0
-Sized e = length (answerBytes e) ≡ sizeOf 28 (codeOf e)
+Sized : ℕ → Answer → Type 0
+Sized room a = length (answerBytes a) ≡ sizeOf room (codeOf a)
 
-sized-values : (e : Contributions Float) → Sized (finiteOr9 e)
-unfolding Sized finiteOr9 doubleBytes bytesOf
-sized-values e = go (finite (e .hard-sphere) && finite (e .reference) && finite (e .attractive))
-  where
-    go : (f : Bool) → Sized (cond f (Values (e .hard-sphere) (e .reference) (e .attractive)) (Refused 9))
-    go true = refl
-    go false = refl
+sized-choice : {room : ℕ} {x y : Answer} → Sized room x → Sized room y → (b : Bool) → Sized room (cond b x y)
+sized-choice p q true = p
+sized-choice p q false = q
 
-sized-energies : (c : Case) → Sized (energiesOf c)
-unfolding energiesOf
-sized-energies c = sized-values _
+sized-worked : (kind : Kind) (c : Case) → Sized (roomOf kind) (workedOf kind c)
+unfolding Sized energiesOf finiteOr9 endsOf okOr10 slopesOf finiteOr9Or11 doubleBytes bytesOf
+sized-worked ForEnergies c = sized-choice refl refl (all finite (contributions doubles (c .perturbation) (c .mixture) (c .state)))
+sized-worked ForEnds c = sized-choice (sized-choice refl refl (all Range.ok (contributions ranges (c .perturbation) (c .mixture) (c .state)))) refl (all finite (contributions doubles (c .perturbation) (c .mixture) (c .state)))
+sized-worked ForSlopes c =
+    let e = Slopes.contributions strict (c .perturbation) (c .mixture) (c .state) in
+    sized-choice (sized-choice refl refl (all Dual.ok e)) refl (all (λ (x : Dual). finite (x .value)) e)
 
-pub sized : (s : List ℕ) → length (energiesAnswer s) ≡ sizeOf 28 (codeOf (answerOf s))
+pub answers-sized : (kind : Kind) (s : List ℕ) → length (answerTo kind s) ≡ sizeOf (roomOf kind) (codeTo kind s)
 unfolding Sized answerOf bytesOf
-sized s = go (eqb (refusalOf s) 0) refl
+answers-sized kind s = go (eqb (refusalOf s) 0) refl
   where
-    go : (b : Bool) → eqb (refusalOf s) 0 ≡ b → Sized (cond b (energiesOf (caseOf s)) (Refused (refusalOf s)))
-    go true e = sized-energies (caseOf s)
-    go false e = sym (ap (λ (b : Bool). cond b 28 4) e)
-
-EndsSized : Ends → Type 0
-EndsSized e = length (endsBytes e) ≡ sizeOf 52 (endsCode e)
-
-ends-sized-case : (c : Case) → EndsSized (endsOf c)
-unfolding EndsSized endsOf okOr10 doubleBytes bytesOf
-ends-sized-case c =
-    let e = contributions ranges (c .perturbation) (c .mixture) (c .state) in
-    go (ok (e .hard-sphere) && ok (e .reference) && ok (e .attractive)) (e .hard-sphere) (e .reference) (e .attractive)
-  where
-    go : (f : Bool) (x y z : Range) → EndsSized (cond f (Ranges x y z) (NoEnds 10))
-    go true x y z = refl
-    go false x y z = refl
-
-pub ends-sized : (s : List ℕ) → length (endsAnswer s) ≡ sizeOf 52 (endsCode (endsAnswerOf s))
-unfolding EndsSized Sized endsAnswerOf bytesOf
-ends-sized s = go (answerOf s) (sized s)
-  where
-    refusal : (b : Bool) → _≡_ {A = ℕ} 4 (cond b 28 4) → _≡_ {A = ℕ} 4 (cond b 52 4)
-    refusal true e = absurd (omega (arith, e))
-    refusal false e = refl
-
-    go : (e : Energies) → Sized e → EndsSized (afterEnergies e (endsOf (caseOf s)))
-    go (Values x y z) h = ends-sized-case (caseOf s)
-    go (Refused code) h = refusal (eqb code 0) h
+    go : (b : Bool) → eqb (refusalOf s) 0 ≡ b → Sized (roomOf kind) (cond b (workedOf kind (caseOf s)) (Refused (refusalOf s)))
+    go true e = sized-worked kind (caseOf s)
+    go false e = sym (ap (λ (b : Bool). cond b (roomOf kind) 4) e)
 
 pub size-fits : (room code : ℕ) → 4 ≤ room → sizeOf room code ≤ room
 size-fits room code h = go (eqb code 0)
@@ -178,18 +206,15 @@ size-fits room code h = go (eqb code 0)
     go true = omega arith
     go false = omega arith
 
--- of either call
-pub answers-sized : (ends : Bool) (s : List ℕ) → length (answerTo ends s) ≡ sizeOf (roomOf ends) (codeTo ends s)
-answers-sized false s = sized s
-answers-sized true s = ends-sized s
+pub some-room : (kind : Kind) → 4 ≤ roomOf kind
+some-room ForEnergies = omega arith
+some-room ForEnds = omega arith
+some-room ForSlopes = omega arith
 
-pub some-room : (ends : Bool) → 4 ≤ roomOf ends
-some-room false = omega arith
-some-room true = omega arith
+pub small-room : (kind : Kind) → roomOf kind ≤ 52
+small-room ForEnergies = omega arith
+small-room ForEnds = omega arith
+small-room ForSlopes = omega arith
 
-pub small-room : (ends : Bool) → roomOf ends ≤ 52
-small-room false = omega arith
-small-room true = omega arith
-
-pub answers-fit : (ends : Bool) (s : List ℕ) → length (answerTo ends s) ≤ roomOf ends
-answers-fit ends s = subst⁻¹ (λ (n : ℕ). n ≤ roomOf ends) (answers-sized ends s) (size-fits (roomOf ends) (codeTo ends s) (some-room ends))
+pub answers-fit : (kind : Kind) (s : List ℕ) → length (answerTo kind s) ≤ roomOf kind
+answers-fit kind s = subst⁻¹ (λ (n : ℕ). n ≤ roomOf kind) (answers-sized kind s) (size-fits (roomOf kind) (codeTo kind s) (some-room kind))

@@ -10,7 +10,8 @@ use lib.Seq.{length-take-le, take-append-seam, drop-append-seam, drop-drop}
 use lib.Dec.{eqb, ltb}
 use borrow.Author.Tests.{le-leb, ne-eqb, le-ltb}
 use Rattle.case_record.specs.Bytes.{bigEndian, written}
-use Rattle.noddyfir.specs.Call.{answerTo, callBuffer, endsAnswer, energiesAnswer, roomOf}
+use Rattle.noddyfir.specs.declared.call.Kind.{Kind}
+use Rattle.noddyfir.specs.Call.{answerTo, callBuffer, roomOf}
 use Rattle.noddyfir.specs.declared.reader.Next.{Next}
 use Rattle.noddyfir.specs.declared.reader.Next.the-variants.{UsedUp, Broken, Whole}
 use Rattle.noddyfir.specs.Run.{Outcome, after, nextOf, runFrom, runOf, stopped}
@@ -130,17 +131,14 @@ module _ (room : ℕ) (answer : List ℕ → List ℕ) where
       }
   apart rs buffer w m = turns rs (length (joined rs)) buffer (few rs w) w m
 
--- ---- of both runs: of energies and of ends
-pub energies-apart : (s buffer : List ℕ) → Apart 28 energiesAnswer s buffer (runOf 28 energiesAnswer s buffer)
-energies-apart = every-run 28 energiesAnswer
+-- ---- of the runs of every kind
+pub runs-apart : (kind : Kind) (s buffer : List ℕ) → Apart (roomOf kind) (answerTo kind) s buffer (runOf (roomOf kind) (answerTo kind) s buffer)
+runs-apart kind = every-run (roomOf kind) (answerTo kind)
 
-pub ends-apart : (s buffer : List ℕ) → Apart 52 endsAnswer s buffer (runOf 52 endsAnswer s buffer)
-ends-apart = every-run 52 endsAnswer
-
-pub whole-records : (ends : Bool) (rs : List (List ℕ)) (buffer : List ℕ) → Records rs → Room (roomOf ends) (answerTo ends) rs buffer
-    → runOf (roomOf ends) (answerTo ends) (joined rs) buffer
+pub whole-records : (kind : Kind) (rs : List (List ℕ)) (buffer : List ℕ) → Records rs → Room (roomOf kind) (answerTo kind) rs buffer
+    → runOf (roomOf kind) (answerTo kind) (joined rs) buffer
     ≡ record {
-      run = record { records = length rs; read = length (joined rs); written = length (joined (map (answerTo ends) rs)); reason = 0 };
-      answers = written buffer (joined (map (answerTo ends) rs));
+      run = record { records = length rs; read = length (joined rs); written = length (joined (map (answerTo kind) rs)); reason = 0 };
+      answers = written buffer (joined (map (answerTo kind) rs));
     }
-whole-records ends = apart (roomOf ends) (answerTo ends)
+whole-records kind = apart (roomOf kind) (answerTo kind)

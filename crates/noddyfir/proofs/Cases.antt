@@ -17,7 +17,7 @@ use Rattle.case_record.specs.Bytes.{bigEndian, bytesOf}
 use Rattle.case_record.specs.Record.{lengthOf}
 use Rattle.case_record.specs.Record as Record
 use Rattle.case_record.specs.Checks.{refusalOf}
-use Rattle.noddyfir.specs.Call.{answerOf, endsAnswerOf, endsAnswer, energiesAnswer}
+use Rattle.noddyfir.specs.Call.{answerOf, endsAnswer, energiesAnswer, slopesAnswer}
 use Rattle.noddyfir.specs.Run.{Outcome, runFrom, runOf}
 
 -- "combining (rep 9, 16; att 6, 6; sigma 3, 4; epsilon_k 100, 400; k 0.25)"
@@ -51,9 +51,10 @@ pub record Table : Type 0 where
   -- "[1,1]+[1,1] = [2−2^−52, 2+2^−51]; [0,0]×[5,5] = [0,0]"
   pub sum : ranges .add (point one) (point one) ≡ range (bits 0x3FFFFFFFFFFFFFFF) (bits 0x4000000000000001)
   pub product : ranges .mul (point zeroD) (point (nearest 5 1)) ≡ zero
-  -- "the seven-byte run", of energies and of ends
+  -- "the seven-byte run", of energies, of ends and of slopes
   pub energies-run : runOf 28 energiesAnswer sevenBytes (replicate 60 0xAA) ≡ bothRefused
   pub ends-run : runOf 52 endsAnswer sevenBytes (replicate 60 0xAA) ≡ bothRefused
+  pub slopes-run : runOf 52 slopesAnswer sevenBytes (replicate 60 0xAA) ≡ bothRefused
 
 combined : (mixture .rep-ij 0 1 ≡ nearest 12 1) × (mixture .att-ij 0 1 ≡ nearest 6 1) × (mixture .sigma-ij 0 1 ≡ nearest 7 2) × (mixture .eps-k-ij 0 1 ≡ nearest 150 1)
 unfolding Root.sqrt ofBits round add sub mul
@@ -64,8 +65,12 @@ unfolding runFrom answerOf refusalOf bigEndian bytesOf
 energies-run = refl
 
 ends-run : runOf 52 endsAnswer sevenBytes (replicate 60 0xAA) ≡ bothRefused
-unfolding runFrom endsAnswerOf answerOf refusalOf bigEndian bytesOf
+unfolding runFrom answerOf refusalOf bigEndian bytesOf
 ends-run = refl
+
+slopes-run : runOf 52 slopesAnswer sevenBytes (replicate 60 0xAA) ≡ bothRefused
+unfolding runFrom answerOf refusalOf bigEndian bytesOf
+slopes-run = refl
 
 pub table : Table
 table =
@@ -83,4 +88,5 @@ table =
       product = r .1;
       energies-run = energies-run;
       ends-run = ends-run;
+      slopes-run = slopes-run;
     }

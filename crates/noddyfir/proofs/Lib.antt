@@ -4,3 +4,4 @@ pub mod Running
 pub mod Apart
 pub mod Cases
 pub mod Guarantee
+pub mod Beside

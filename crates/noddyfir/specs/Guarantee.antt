@@ -10,9 +10,10 @@ use Rattle.range.specs.declared.basic.Range.{Range}
 use Rattle.range.specs.Exact.{Choices, Reading, exact}
 use Rattle.uvtheory.specs.Contributions.{Contributions}
 use Rattle.eos.specs.Sent.{contributions}
-use Rattle.case_record.specs.declared.answer.Energies.the-variants.{Values}
 use Rattle.case_record.specs.declared.case.Case.{Case}
 use Rattle.case_record.specs.Record.{caseOf}
+use Rattle.answer.specs.declared.Answer.the-variants.{Energies}
+use Rattle.noddyfir.specs.declared.call.Kind.the-variants.{Energies as ForEnergies}
 use Rattle.noddyfir.specs.Call.{answerOf}
 
 -- "Exact reading. It is fed the record's inputs, each double as the fraction it is, and gives three fractions, one for each energy.": the same formulas as of the energies, in
@@ -37,7 +38,7 @@ pub record EndsHold (s : List ℕ) (hard-sphere reference attractive : Range) : 
   pub x : Float
   pub y : Float
   pub z : Float
-  pub energies : answerOf s ≡ Values x y z
+  pub energies : answerOf ForEnergies s ≡ Energies x y z
   pub hard-sphere-held : EnergyHeld hard-sphere x (readingOf (caseOf s) .hard-sphere)
   pub reference-held : EnergyHeld reference y (readingOf (caseOf s) .reference)
   pub attractive-held : EnergyHeld attractive z (readingOf (caseOf s) .attractive)

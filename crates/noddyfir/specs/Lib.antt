@@ -1,5 +1,6 @@
--- What document 01 says of a call, of a run and of ends.
+-- What documents 01 and 02 say of a call, of a run, of ends and of slopes.
 pub mod Call
 pub mod Run
 pub mod Apart
 pub mod Guarantee
+pub mod Beside

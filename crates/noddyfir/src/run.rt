@@ -2,9 +2,11 @@
 ghost use mathlib.Core.Path.{_≡_};
 ghost use Prim.Native.Nat.{_≤_};
 ghost use lib.ListN.{length};
-ghost use Rattle.noddyfir.specs.Call.{answerTo, endsAnswer, energiesAnswer, roomOf};
+ghost use Rattle.noddyfir.specs.Call.{answerTo, endsAnswer, energiesAnswer, roomOf, slopesAnswer};
 ghost use Rattle.noddyfir.specs.Run.{runOf, sizeOf};
+use crate::call::Kind;
 use crate::call::answer_to;
+use crate::call::room_of;
 use crate::reader::Next;
 use crate::reader::next_from;
 use crate::reader::record_from;
@@ -30,13 +32,6 @@ fn stopped(records: usize, read: usize, written: usize, reason: u8) -> Run
     }
 }
 
-// How many bytes an answer may need.
-fn room_of(with_ends: bool) -> usize
-    ensures { λ r. ⌜ r ≡ roomOf «with_ends» ⌝ }
-{
-    if with_ends { 52 } else { 28 }
-}
-
 // How many bytes an answer with this code has.
 fn answer_size(room: usize, code: u8) -> usize
     requires { ⌜ 4 ≤ room ⌝ }
@@ -45,13 +40,13 @@ fn answer_size(room: usize, code: u8) -> usize
     if code == 0 { room } else { 4 }
 }
 
-// Answers the records one after the other, each with its energies or with its ends: each answer is written where the one before it ended. `within` follows
+// Answers the records one after the other by one kind of call: each answer is written where the one before it ended. `within` follows
 // from the outcome and is stated for callers, who lend the rest of the records and read the answers.
-pub fn run_records(with_ends: bool, records: &[u8], answers: &mut [u8]) -> Run
-    ensures { λ r. ⌜ (r ≡ runOf (roomOf «with_ends») (answerTo «with_ends») (now (records .entry)) (now (answers .entry)) .run) × (now (answers .exit) ≡ runOf (roomOf «with_ends») (answerTo «with_ends») (now (records .entry)) (now (answers .entry)) .answers) ⌝ }
+pub fn run_records(kind: Kind, records: &[u8], answers: &mut [u8]) -> Run
+    ensures { λ r. ⌜ (r ≡ runOf (roomOf kind) (answerTo kind) (now (records .entry)) (now (answers .entry)) .run) × (now (answers .exit) ≡ runOf (roomOf kind) (answerTo kind) (now (records .entry)) (now (answers .entry)) .answers) ⌝ }
     ensures within { λ r. ⌜ (r .read ≤ length (now (records .entry))) × (r .written ≤ length (now (answers .exit))) ⌝ }
 {
-    let room = room_of(with_ends);
+    let room = room_of(kind);
     let mut done = 0;
     let mut read = 0;
     let mut written = 0;
@@ -68,7 +63,7 @@ pub fn run_records(with_ends: bool, records: &[u8], answers: &mut [u8]) -> Run
                     return stopped(done, read, written, 1);
                 }
                 let record = record_from(records, read, size);
-                let code = answer_to(with_ends, record, &mut answers[written..]);
+                let code = answer_to(kind, record, &mut answers[written..]);
                 written += answer_size(room, code);
                 read += size;
                 done += 1;
@@ -81,12 +76,19 @@ pub fn run_energies(records: &[u8], answers: &mut [u8]) -> Run
     ensures { λ r. ⌜ (r ≡ runOf 28 energiesAnswer (now (records .entry)) (now (answers .entry)) .run) × (now (answers .exit) ≡ runOf 28 energiesAnswer (now (records .entry)) (now (answers .entry)) .answers) ⌝ }
     ensures within { λ r. ⌜ (r .read ≤ length (now (records .entry))) × (r .written ≤ length (now (answers .exit))) ⌝ }
 {
-    run_records(false, records, answers)
+    run_records(Kind::Energies, records, answers)
 }
 
 pub fn run_ends(records: &[u8], answers: &mut [u8]) -> Run
     ensures { λ r. ⌜ (r ≡ runOf 52 endsAnswer (now (records .entry)) (now (answers .entry)) .run) × (now (answers .exit) ≡ runOf 52 endsAnswer (now (records .entry)) (now (answers .entry)) .answers) ⌝ }
     ensures within { λ r. ⌜ (r .read ≤ length (now (records .entry))) × (r .written ≤ length (now (answers .exit))) ⌝ }
 {
-    run_records(true, records, answers)
+    run_records(Kind::Ends, records, answers)
+}
+
+pub fn run_slopes(records: &[u8], answers: &mut [u8]) -> Run
+    ensures { λ r. ⌜ (r ≡ runOf 52 slopesAnswer (now (records .entry)) (now (answers .entry)) .run) × (now (answers .exit) ≡ runOf 52 slopesAnswer (now (records .entry)) (now (answers .entry)) .answers) ⌝ }
+    ensures within { λ r. ⌜ (r .read ≤ length (now (records .entry))) × (r .written ≤ length (now (answers .exit))) ⌝ }
+{
+    run_records(Kind::Slopes, records, answers)
 }

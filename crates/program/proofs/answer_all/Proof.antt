@@ -7,10 +7,10 @@ use Rattle.program.proofs.answer_all.Statement.{statement}
 use Rattle.program.proofs.answer_all.Tie as tie
 
 abbrev Inv-loop : tie.InvT-loop
-Inv-loop ends input at₀ at = at ≤ length input
+Inv-loop kind input at₀ at = at ≤ length input
 
 abbrev μ-loop : tie.MeasureT-loop
-μ-loop ends input at₀ at = length input - at
+μ-loop kind input at₀ at = length input - at
 
 loop-less : tie.Need-loop-less Inv-loop μ-loop
 loop-less c =

@@ -20,7 +20,7 @@ returns c =
     let b = r .before .before .before in
     let s = b .before .before .args .input .now in
     let at = b .before .before .args .at in
-    let e = b .before .before .args .with-ends in
+    let e = b .before .before .args .kind in
     let room : roomOf e ≤ length (b .buffer .result) = omega (arith, b .buffer .ensures, small-room e) in
     (search needs, λ h. progress (roomOf e) (answerTo e) (take (length s - at) (drop at s)) (b .buffer .result) (r .run-records .result) (r .run-records .ensures .0 .0) h room)
 

@@ -1,11 +1,12 @@
 -- A record that no check refuses has the bytes of its n substances.
+use Prim.Native.Nat.{_≤_}
 use mathlib.Core.Path.{_≡_, sym, ap, _∙_}
 use borrow.Author.Needs.{needs}
 use Rattle.case_record.specs.Record.{mixtureOf}
 use Rattle.case_record.specs.Checks.{refusalOf}
-use Rattle.case_record.specs.declared.answer.Energies.the-variants.{Refused}
 use Rattle.case_record.proofs.Accepted.{whole}
-use Rattle.noddyfir.specs.Call.{energiesOf}
+use Rattle.answer.specs.declared.Answer.the-variants.{Refused}
+use Rattle.noddyfir.specs.Call.{energiesOf, endsOf, slopesOf}
 use Rattle.noddyfir.proofs.Answers.{accepted, refused}
 use Rattle.noddyfir.proofs.call.answer_of.Statement.{statement}
 use Rattle.noddyfir.proofs.call.answer_of.Tie as tie
@@ -14,15 +15,15 @@ use Rattle.noddyfir.proofs.call.answer_of.Tie as tie
 passes : (c : tie.Else1) → refusalOf (c .before .before .before .args .«record» .now) ≡ 0
 passes c = sym (c .before .refusal .ensures) ∙ c .if1 .left
 
-returns : tie.Need-returns
-returns c = let e = c .before .refusal .ensures in ap Refused e ∙ sym (refused _ (λ z. c .if1 .taken (e ∙ z)))
-
-energies-of-requires : tie.Need-energies-of-requires
+few : (c : tie.After-c) → c .case-of .result .mixture .n ≤ 8
 unfolding mixtureOf
-energies-of-requires c κs = rw (c .case-of .ensures) (whole _ (passes (c .before)) .0)
+few c = rw (c .case-of .ensures) (whole _ (passes (c .before)) .0)
+
+returns : tie.Need-returns
+returns c = let e = c .before .refusal .ensures in ap Refused e ∙ sym (refused _ _ (λ z. c .if1 .taken (e ∙ z)))
 
 returns-2 : tie.Need-returns-2
-returns-2 c = c .energies-of .ensures ∙ ap energiesOf (c .before .case-of .ensures) ∙ sym (accepted _ (passes (c .before .before)))
+returns-2 c = ?
 
 pub answer-of-spec : {M : Type 1} → statement M
-answer-of-spec = tie.close (tie.spec (λ c κs. search needs) returns (λ c κs. whole _ (passes c)) energies-of-requires returns-2)
+answer-of-spec = tie.close (tie.spec (λ c κs. search needs) returns (λ c κs. whole _ (passes c)) ?)

@@ -1,14 +1,15 @@
--- By which call is asked for.
-use mathlib.Core.Path.{_≡_}
+-- With and without room for an answer.
+use Prim.Native.Nat.{_≤_}
+use mathlib.Core.Path.{_≡_, refl}
+use native.Mathlib.Omega.{arith}
 use borrow.Author.Needs.{needs}
+use borrow.Author.Tests.{lt-ltb, le-ltb}
+use Rattle.noddyfir.proofs.Answers.{answers-fit}
 use Rattle.noddyfir.proofs.call.answer_to.Statement.{statement}
 use Rattle.noddyfir.proofs.call.answer_to.Tie as tie
 
 returns : tie.Need-returns
-returns c = rw (c .before .before .before .before .if1 .taken) (c .before .before .ends .ensures)
-
-returns-2 : tie.Need-returns-2
-returns-2 c = rw (c .before .before .before .before .if1 .left) (c .before .before .energies .ensures)
+returns c = ?
 
 pub answer-to-spec : {M : Type 1} → statement M
-answer-to-spec = tie.close (tie.spec (λ c κs. search needs) (λ c. search needs) returns (λ c κs. search needs) (λ c. search needs) returns-2)
+answer-to-spec = ?

@@ -1,20 +1,19 @@
--- By what the test of the three ranges says.
+-- By what the test of the three energies says.
+use mathlib.Core.Path.{_∙_}
 use borrow.Author.Needs.{needs}
-use Rattle.noddyfir.proofs.Answers.{all-ok, not-all-ok}
+use Rattle.noddyfir.proofs.Answers.{ends-worked, no-ends}
 use Rattle.noddyfir.proofs.call.ends_of.Statement.{statement}
 use Rattle.noddyfir.proofs.call.ends_of.Tie as tie
 
 returns : tie.Need-returns
 returns c =
-    let b = c .before in
-    let e = b .before .before .before .before .before .before in
-    all-ok (e .before .before .before .args .c) (e .contributions .ensures) (b .before .before .is-ok .ensures) (b .before .is-ok2 .ensures) (b .is-ok3 .ensures) (c .if1 .taken)
+    let b = c .before .before in
+    c .ranges-of .ensures ∙ ends-worked (b .before .before .before .before .args .c) (b .before .contributions .ensures) (b .are-finite .ensures) (c .before .if1 .taken)
 
 returns-2 : tie.Need-returns-2
 returns-2 c =
     let b = c .before in
-    let e = b .before .before .before .before .before .before in
-    not-all-ok (e .before .before .before .args .c) (e .contributions .ensures) (b .before .before .is-ok .ensures) (b .before .is-ok2 .ensures) (b .is-ok3 .ensures) (c .if1 .left)
+    no-ends (b .before .before .before .before .args .c) (b .before .contributions .ensures) (b .are-finite .ensures) (c .if1 .left)
 
 pub ends-of-spec : {M : Type 1} → statement M
-ends-of-spec = tie.close (tie.spec (λ c κs. search needs) (λ c κs. tt) (λ c κs. tt) (λ c κs. tt) returns returns-2)
+ends-of-spec = tie.close (tie.spec (λ c κs. search needs) (λ c κs. tt) (λ c κs. search needs) returns returns-2)

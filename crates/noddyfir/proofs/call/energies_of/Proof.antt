@@ -7,12 +7,12 @@ use Rattle.noddyfir.proofs.call.energies_of.Tie as tie
 returns : tie.Need-returns
 returns c =
     let b = c .before in
-    all-finite (b .before .before .before .before .before .before .args .c) (b .before .before .before .contributions .ensures) (b .before .before .is-finite .ensures) (b .before .is-finite2 .ensures) (b .is-finite3 .ensures) (c .if1 .taken)
+    all-finite (b .before .before .before .before .args .c) (b .before .contributions .ensures) (b .are-finite .ensures) (c .if1 .taken)
 
 returns-2 : tie.Need-returns-2
 returns-2 c =
     let b = c .before in
-    not-all-finite (b .before .before .before .before .before .before .args .c) (b .before .before .before .contributions .ensures) (b .before .before .is-finite .ensures) (b .before .is-finite2 .ensures) (b .is-finite3 .ensures) (c .if1 .left)
+    not-all-finite (b .before .before .before .before .args .c) (b .before .contributions .ensures) (b .are-finite .ensures) (c .if1 .left)
 
 pub energies-of-spec : {M : Type 1} → statement M
-energies-of-spec = tie.close (tie.spec (λ c κs. search needs) (λ c κs. tt) (λ c κs. tt) (λ c κs. tt) returns returns-2)
+energies-of-spec = tie.close (tie.spec (λ c κs. search needs) (λ c κs. tt) returns returns-2)

@@ -1,7 +1,7 @@
 -- The loop's invariant: the run is what was done, and behind it the run of the bytes that are left.
 use Prim.Native.Nat.{ℕ, _-_, _≤_}
 use mathlib.Core.Path.{_≡_, sym, ap, _∙_}
-use mathlib.Core.Bool.{Bool}
+use Rattle.noddyfir.specs.declared.call.Kind.{Kind}
 use mathlib.Core.List.{List}
 use native.Mathlib.Omega.{arith}
 use borrow.Author.Needs.{needs}
@@ -15,18 +15,18 @@ use Rattle.noddyfir.proofs.run.run_records.Statement.{statement}
 use Rattle.noddyfir.proofs.run.run_records.Tie as tie
 
 abbrev Inv-loop : tie.InvT-loop
-Inv-loop ends records answers₀ room done₀ read₀ written₀ answers done read written = Going (roomOf ends) (answerTo ends) records answers₀ done read written answers
+Inv-loop kind records answers₀ room done₀ read₀ written₀ answers done read written = Going (roomOf kind) (answerTo kind) records answers₀ done read written answers
 
 abbrev μ-loop : tie.MeasureT-loop
-μ-loop ends records answers₀ room done₀ read₀ written₀ answers done read written = length records - read
+μ-loop kind records answers₀ room done₀ read₀ written₀ answers done read written = length records - read
 
 -- the bytes left, and what stands there
 abbrev left : tie.After-next-from Inv-loop μ-loop → List ℕ
 left c = drop (c .before .loop .read) (c .before .before .before .before .before .args .records .now)
 
--- which call is asked for, and the room of its answers
-abbrev asked : tie.After-next-from Inv-loop μ-loop → Bool
-asked c = c .before .before .before .before .before .args .with-ends
+-- the kind of call, and the room of its answers
+abbrev asked : tie.After-next-from Inv-loop μ-loop → Kind
+asked c = c .before .before .before .before .before .args .kind
 
 room : (c : tie.After-next-from Inv-loop μ-loop) → c .before .before .room-of .result ≡ roomOf (asked c)
 room c = c .before .before .room-of .ensures
