@@ -7,10 +7,9 @@ use lib.ListN.{replicate}
 use lib.Ieee.{Float, binary64, ofBits, toBits, round, le, add}
 use Rattle.arithmetic.specs.Arithmetic.{sumBy}
 use Rattle.arithmetic.specs.Constants.{zeroD}
-use Rattle.case_record.specs.Bytes.{bigEndian, bytesOf, doubleAt, doubleBytes}
+use Rattle.case_record.specs.Bytes.{bigEndian, bytesOf, doubleAt, doubleBytes, doublesBytes}
 use Rattle.case_record.specs.Record.{caseOf, mixtureOf, stateOf, values}
 use Rattle.case_record.specs.Checks.{allInside, refusalOf, state, substances}
-use Rattle.case_record.specs.Answer.{doublesBytes}
 
 -- num / den
 abbrev d : ℕ → ℕ → Float

@@ -2,6 +2,5 @@
 pub mod Digits
 pub mod Patterns
 pub mod Rows
-pub mod Writing
 pub mod Accepted
 pub mod Examples

@@ -21,6 +21,10 @@ doubleAt s at = ofBits binary64 (bigEndian s at 8)
 unfoldable pub doubleBytes : Float → List ℕ
 doubleBytes x = bytesOf (toBits binary64 x) 8
 
+abbrev pub doublesBytes : List Float → List ℕ
+doublesBytes [] = []
+doublesBytes (x ∷ xs) = doubleBytes x ++ doublesBytes xs
+
 -- a buffer after `bytes` were written at its start: "Bytes past the answer are untouched."
 abbrev pub written : List ℕ → List ℕ → List ℕ
 written buffer bytes = bytes ++ drop (length bytes) buffer

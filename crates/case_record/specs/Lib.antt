@@ -1,5 +1,4 @@
--- What document 01 says of case and answer records.
+-- What document 01 says of case records, and of bytes.
 pub mod Bytes
 pub mod Record
 pub mod Checks
-pub mod Answer

@@ -1,5 +1,4 @@
-// Case and answer records of document 01: reading, the checks 2 to 8, and writing.
-pub mod answer;
+// Case records of document 01: reading, and the checks 2 to 8.
 pub mod bytes;
 pub mod case;
 pub mod checks;

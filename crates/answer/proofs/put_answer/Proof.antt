@@ -5,11 +5,10 @@ use mathlib.Core.List.{_++_}
 use native.Mathlib.Omega.{arith}
 use borrow.Author.Needs.{needs}
 use lib.ListN.{length, take}
-use Rattle.case_record.specs.Bytes.{written}
-use Rattle.case_record.specs.Answer.{doublesBytes}
-use Rattle.case_record.proofs.Writing.{none-yet, double-more, whole-answer}
-use Rattle.case_record.proofs.answer.put_answer.Statement.{statement}
-use Rattle.case_record.proofs.answer.put_answer.Tie as tie
+use Rattle.case_record.specs.Bytes.{doublesBytes, written}
+use Rattle.answer.proofs.Writing.{none-yet, double-more, whole-answer}
+use Rattle.answer.proofs.put_answer.Statement.{statement}
+use Rattle.answer.proofs.put_answer.Tie as tie
 
 abbrev Inv-loop : tie.InvT-loop
 Inv-loop answer₀ code doubles k₀ k-end answer k =

@@ -4,8 +4,8 @@ use native.Mathlib.Omega.{arith}
 use borrow.Author.Needs.{needs}
 use lib.ListN.{length-set}
 use lib.Seq.{sets-eq}
-use Rattle.case_record.proofs.answer.put_header.Statement.{statement}
-use Rattle.case_record.proofs.answer.put_header.Tie as tie
+use Rattle.answer.proofs.put_header.Statement.{statement}
+use Rattle.answer.proofs.put_header.Tie as tie
 
 returns : tie.Need-returns
 returns c = sets-eq (0 ∷ c .args .count ∷ 1 ∷ c .args .code ∷ []) (c .args .answer .now) 0 (c .pre)

@@ -7,8 +7,9 @@ use native.Mathlib.Omega.{arith}
 use lib.ListN.{length, getD, take, drop, length-append, take-append-drop}
 use lib.Seq.{take-append-seam, drop-append-add, drop-drop, take-suc, take-length, length-take-le}
 use lib.Ieee.{Float, nan}
-use Rattle.case_record.specs.Bytes.{bytesOf, doubleBytes, written}
-use Rattle.case_record.specs.Answer.{answerWith, doublesBytes}
+use Rattle.case_record.specs.Bytes.{bytesOf, doubleBytes, doublesBytes, written}
+use Rattle.answer.specs.declared.Answer.{Answer}
+use Rattle.answer.specs.Answer.{answerBytes, answerWith, codeOf, doublesOf}
 
 length-double : (x : Float) → length (doubleBytes x) ≡ 8
 unfolding doubleBytes bytesOf
@@ -64,3 +65,11 @@ pub whole-answer : (l : List ℕ) (code : ℕ) (xs : List Float) {l₁ l₂ : Li
     → l₂ ≡ written l₁ (take 4 l₁ ++ doublesBytes (take (length xs) xs))
     → l₂ ≡ written l (answerWith code xs)
 whole-answer l code xs h e₁ e₂ = e₂ ∙ rw (e₁, take-length xs, short (2 + 8 * length xs) (omega arith)) (again (0 ∷ (2 + 8 * length xs) ∷ 1 ∷ code ∷ []) (doublesBytes xs) l)
+
+-- ---- a buffer that has room for an answer
+pub length-answer : (code : ℕ) (xs : List Float) → length (answerWith code xs) ≡ 4 + 8 * length xs
+unfolding bytesOf
+length-answer code xs = omega (arith, length-doubles xs)
+
+pub room : {a b : Answer} {n : ℕ} → a ≡ b → length (answerBytes a) ≤ n → 4 + 8 * length (doublesOf b) ≤ n
+room {b = b} e h = rw (← length-answer (codeOf b) (doublesOf b), ← e) h

@@ -1,0 +1,4 @@
+-- Laws of the definitions.
+pub mod Digits
+pub mod Patterns
+pub mod Writing
