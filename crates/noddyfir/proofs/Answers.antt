@@ -56,9 +56,9 @@ both-ways h k l = rw (h, k, l)
 
 first : (p q r : Bool) → p && q && r ≡ true → T p × T q × T r
 first true true true e = (tt, tt, tt)
-first true true false e = subst T (sym e) tt
-first true false r e = subst T (sym e) tt
-first false q r e = subst T (sym e) tt
+first true true false e = let z : T false = subst T (sym e) tt in absurd z
+first true false r e = let z : T false = subst T (sym e) tt in absurd z
+first false q r e = let z : T false = subst T (sym e) tt in absurd z
 
 -- ---- The code tests its three energies once. The definition's are NaN from the first value on that is not finite. The answers are the same.
 finite-checked : (x : Float) → finite x ≡ finite (checked x)
@@ -176,28 +176,30 @@ module _ (c : Case) {e : HeldDuals} (are : DualsOf e (Slopes.contributions plain
       value-fails k = rw (sym values-tested ∙ k)
 
 -- ---- an answer has as many bytes as its code says
-Sized : ℕ → Answer → Type 0
-Sized room a = length (answerBytes a) ≡ sizeOf room (codeOf a)
+pub record Sized (room : ℕ) (a : Answer) : Type 0 where
+  pub bytes : length (answerBytes a) ≡ sizeOf room (codeOf a)
 
-sized-choice : {room : ℕ} {x y : Answer} → Sized room x → Sized room y → (b : Bool) → Sized room (cond b x y)
-sized-choice p q true = p
-sized-choice p q false = q
+choice : {room : ℕ} {x y : Answer} → Sized room x → Sized room y → (b : Bool) → Sized room (cond b x y)
+choice p q true = p
+choice p q false = q
 
 sized-worked : (kind : Kind) (c : Case) → Sized (roomOf kind) (workedOf kind c)
-unfolding Sized energiesOf finiteOr9 endsOf okOr10 slopesOf finiteOr9Or11 doubleBytes bytesOf
-sized-worked ForEnergies c = sized-choice refl refl (all finite (contributions doubles (c .perturbation) (c .mixture) (c .state)))
-sized-worked ForEnds c = sized-choice (sized-choice refl refl (all Range.ok (contributions ranges (c .perturbation) (c .mixture) (c .state)))) refl (all finite (contributions doubles (c .perturbation) (c .mixture) (c .state)))
+unfolding energiesOf finiteOr9 endsOf okOr10 slopesOf finiteOr9Or11 doubleBytes bytesOf
+sized-worked ForEnergies c = choice record { bytes = refl } record { bytes = refl } (all finite (contributions doubles (c .perturbation) (c .mixture) (c .state)))
+sized-worked ForEnds c =
+    choice (choice record { bytes = refl } record { bytes = refl } (all Range.ok (contributions ranges (c .perturbation) (c .mixture) (c .state)))) record { bytes = refl }
+    (all finite (contributions doubles (c .perturbation) (c .mixture) (c .state)))
 sized-worked ForSlopes c =
     let e = Slopes.contributions strict (c .perturbation) (c .mixture) (c .state) in
-    sized-choice (sized-choice refl refl (all Dual.ok e)) refl (all (λ (x : Dual). finite (x .value)) e)
+    choice (choice record { bytes = refl } record { bytes = refl } (all Dual.ok e)) record { bytes = refl } (all (λ (x : Dual). finite (x .value)) e)
 
 pub answers-sized : (kind : Kind) (s : List ℕ) → length (answerTo kind s) ≡ sizeOf (roomOf kind) (codeTo kind s)
-unfolding Sized answerOf bytesOf
-answers-sized kind s = go (eqb (refusalOf s) 0) refl
+unfolding answerOf bytesOf
+answers-sized kind s = go (eqb (refusalOf s) 0) refl .bytes
   where
     go : (b : Bool) → eqb (refusalOf s) 0 ≡ b → Sized (roomOf kind) (cond b (workedOf kind (caseOf s)) (Refused (refusalOf s)))
     go true e = sized-worked kind (caseOf s)
-    go false e = sym (ap (λ (b : Bool). cond b (roomOf kind) 4) e)
+    go false e = record { bytes = sym (ap (λ (b : Bool). cond b (roomOf kind) 4) e) }
 
 pub size-fits : (room code : ℕ) → 4 ≤ room → sizeOf room code ≤ room
 size-fits room code h = go (eqb code 0)

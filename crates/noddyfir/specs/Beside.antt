@@ -1,5 +1,6 @@
 -- What M-100 says of a record's energies with slopes, beside its energies: "The value half must be the energies already shipped, to the bit", and 11 is "tested after 9".
 use mathlib.Core.Path.{_≡_}
+use mathlib.Core.Logic.{_⊎_}
 use lib.Ieee.{Float}
 use Rattle.dual.specs.Rules.{dual}
 use Rattle.answer.specs.declared.Answer.{Answer}

@@ -15,7 +15,7 @@ use Rattle.noddyfir.proofs.call.answer_of.Tie as tie
 passes : (c : tie.Else1) → refusalOf (c .before .before .before .args .«record» .now) ≡ 0
 passes c = sym (c .before .refusal .ensures) ∙ c .if1 .left
 
-few : (c : tie.After-c) → c .case-of .result .mixture .n ≤ 8
+few : (c : tie.After-case-of) → c .case-of .result .mixture .n ≤ 8
 unfolding mixtureOf
 few c = rw (c .case-of .ensures) (whole _ (passes (c .before)) .0)
 
@@ -23,7 +23,33 @@ returns : tie.Need-returns
 returns c = let e = c .before .refusal .ensures in ap Refused e ∙ sym (refused _ _ (λ z. c .if1 .taken (e ∙ z)))
 
 returns-2 : tie.Need-returns-2
-returns-2 c = ?
+returns-2 c =
+    let k = c .before .before .before in
+    rw (c .before .enum-told .given .1) (c .energies-of .ensures ∙ ap energiesOf (k .case-of .ensures) ∙ sym (accepted _ _ (passes (k .before))))
+
+returns-3 : tie.Need-returns-3
+returns-3 c =
+    let k = c .before .before .before in
+    rw (c .before .enum-told2 .given .1) (c .ends-of .ensures ∙ ap endsOf (k .case-of .ensures) ∙ sym (accepted _ _ (passes (k .before))))
+
+returns-4 : tie.Need-returns-4
+returns-4 c =
+    let k = c .before .before .before in
+    rw (c .before .enum-told3 .given .1) (c .slopes-of .ensures ∙ ap slopesOf (k .case-of .ensures) ∙ sym (accepted _ _ (passes (k .before))))
 
 pub answer-of-spec : {M : Type 1} → statement M
-answer-of-spec = tie.close (tie.spec (λ c κs. search needs) returns (λ c κs. whole _ (passes c)) ?)
+answer-of-spec =
+    tie.close
+    (tie.spec
+    (λ c κs. search needs)
+    returns
+    (λ c κs. whole _ (passes c))
+    (λ c. search needs)
+    (λ c κs. few (c .before .before))
+    (λ c. search needs)
+    (λ c κs. few (c .before .before))
+    (λ c. search needs)
+    (λ c κs. few (c .before .before))
+    returns-2
+    returns-3
+    returns-4)

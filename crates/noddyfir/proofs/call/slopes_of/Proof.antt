@@ -6,13 +6,28 @@ use Rattle.noddyfir.proofs.call.slopes_of.Statement.{statement}
 use Rattle.noddyfir.proofs.call.slopes_of.Tie as tie
 
 returns : tie.Need-returns
-returns c = ?
+returns c =
+    let b = c .before in
+    let e = b .before .before .before .before .before .before in
+    all-sloped (e .before .before .before .args .c) (e .contributions .ensures) (rw (b .before .before .is-ok .ensures, b .before .is-ok2 .ensures, b .is-ok3 .ensures)) (c .if1 .taken)
 
 returns-2 : tie.Need-returns-2
-returns-2 c = ?
+returns-2 c =
+    let f = c .before in
+    let k = f .before .before .before in
+    let b = k .before in
+    let e = b .before .before .before .before .before .before in
+    slope-fails (e .before .before .before .args .c) (e .contributions .ensures) (rw (b .before .before .is-ok .ensures, b .before .is-ok2 .ensures, b .is-ok3 .ensures))
+    (rw (f .before .before .is-finite .ensures, f .before .is-finite2 .ensures, f .is-finite3 .ensures)) (k .if1 .left) (c .if2 .taken)
 
 returns-3 : tie.Need-returns-3
-returns-3 c = ?
+returns-3 c =
+    let f = c .before in
+    let k = f .before .before .before in
+    let b = k .before in
+    let e = b .before .before .before .before .before .before in
+    value-fails (e .before .before .before .args .c) (e .contributions .ensures) (rw (b .before .before .is-ok .ensures, b .before .is-ok2 .ensures, b .is-ok3 .ensures))
+    (rw (f .before .before .is-finite .ensures, f .before .is-finite2 .ensures, f .is-finite3 .ensures)) (k .if1 .left) (c .if2 .left)
 
 pub slopes-of-spec : {M : Type 1} → statement M
 slopes-of-spec = tie.close (tie.spec (λ c κs. search needs) (λ c κs. tt) (λ c κs. tt) (λ c κs. tt) returns (λ c κs. tt) (λ c κs. tt) (λ c κs. tt) returns-2 returns-3)
