@@ -5,4 +5,3 @@ pub mod Arrays
 pub mod Loops
 pub mod Eight
 pub mod Kept
-pub mod Agreement

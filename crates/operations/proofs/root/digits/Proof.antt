@@ -20,15 +20,16 @@ goes-on c =
     ⊎-elim
     (λ w. (omega (arith, early _ _ _ _ _ (l .inv .0) (w .taken)), omega (arith, w .taken)))
     (λ w. ⊎-elim
-    (λ v. (ltb-true (l .rounds) 54 (sym (v .1) ∙ w .3 .taken), omega (arith, v .0 .taken)))
+    (λ v. (omega (arith, ltb-true (l .rounds) _ (sym (v .1) ∙ w .3 .taken)), omega (arith, v .0 .taken)))
     (λ v. absurd (omega (arith, v .0 .left, ltb-true 0 (l .s .remainder) (sym (v .1) ∙ w .3 .taken))))
     (w .2 .came))
     (c .if1 .came)
 
 leaves : (c : tie.Else3 Inv μ) → let l = c .before .before .before .before .before .loop in (l .s .radicand + l .s .remainder ≡ 0) ⊎ (54 ≤ l .rounds)
 leaves c =
+    let l = c .before .before .before .before .before .loop in
     ⊎-elim
-    (λ v. inr (ltb-false _ 54 (sym (v .1) ∙ c .if3 .left)))
+    (λ v. inr (omega (arith, ltb-false (l .rounds) _ (sym (v .1) ∙ c .if3 .left))))
     (λ v. inl (omega (arith, v .0 .left, c .before .before .before .if1 .left)))
     (c .before .if2 .came)
 
