@@ -93,13 +93,13 @@ fn slopes_of(c: Case) -> Answer
     let mixture = c.mixture;
     let state = c.state;
     let e = eos::slopes::contributions(c.perturbation, mixture, state);
-    let hard_sphere = e.hard_sphere;
-    let reference = e.reference;
-    let attractive = e.attractive;
-    if hard_sphere.is_ok() & reference.is_ok() & attractive.is_ok() {
-        return Answer::Slopes(hard_sphere, reference, attractive);
+    let x = e.hard_sphere;
+    let y = e.reference;
+    let z = e.attractive;
+    if x.is_ok() & y.is_ok() & z.is_ok() {
+        return Answer::Slopes(x, y, z);
     }
-    if is_finite(hard_sphere.value) & is_finite(reference.value) & is_finite(attractive.value) {
+    if is_finite(x.value) & is_finite(y.value) & is_finite(z.value) {
         return Answer::Refused(11);
     }
     Answer::Refused(9)

@@ -1,4 +1,4 @@
-//! The stored records of the programs `energies` and `ends`, with answers that the Rust which is ported gave.
+//! The stored records of the programs `energies`, `ends` and `slopes`, with answers that the Rust which is ported gave.
 
 use noddyfir::bytes::{self, Reason, Run};
 use noddyfir::{Fault, Refusal};
@@ -7,6 +7,8 @@ const RECORDS: &[u8] = include_bytes!("../../../crates/energies/stdin");
 const ENERGIES: &[u8] = include_bytes!("../../../crates/energies/stdout");
 const RECORDS_FOR_ENDS: &[u8] = include_bytes!("../../../crates/ends/stdin");
 const ENDS: &[u8] = include_bytes!("../../../crates/ends/stdout");
+const RECORDS_FOR_SLOPES: &[u8] = include_bytes!("../../../crates/slopes/stdin");
+const SLOPES: &[u8] = include_bytes!("../../../crates/slopes/stdout");
 
 type Call = fn(&[u8], &mut [u8]) -> Result<Run, Fault>;
 
@@ -28,6 +30,7 @@ fn runs_give_the_stored_answers() {
     for room in [52, 100, 1 << 20] {
         assert!(answers(bytes::run_energies, RECORDS, room) == ENERGIES);
         assert!(answers(bytes::run_ends, RECORDS_FOR_ENDS, room) == ENDS);
+        assert!(answers(bytes::run_slopes, RECORDS_FOR_SLOPES, room) == SLOPES);
     }
 }
 
