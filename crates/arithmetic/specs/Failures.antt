@@ -1,4 +1,4 @@
--- No operation loses a failure: where a result has not failed, its operands have not. In doubles a failure is NaN, and in ranges it is a range without ends.
+-- No operation loses a failure: where a result has not failed, its operands have not. In doubles a failure is NaN, in ranges a range without ends, in values with slopes a slope that is NaN.
 use Prim.Native.Nat.{ℕ, suc, _<_}
 use mathlib.Core.Logic.{_⊎_}
 use lib.IntN.{ℤ}

@@ -1,5 +1,5 @@
 -- Values with slopes by computation: they hold the rules to M-100 where no law does.
-use Prim.Native.Nat.{ℕ}
+use Prim.Native.Nat.{ℕ, _^_}
 use mathlib.Core.Path.{_≡_, refl}
 use mathlib.Core.Bool.{true, false}
 use lib.Ieee.{Float, nan, inf, binary64, ofBits, round, ofInt, neg, add, sub, mul, div, lt}
@@ -47,3 +47,15 @@ kept : (slopes .exp (dual (minus 701) two) ≡ dual zeroD zeroD) × (slopes .exp
     × (slopes .sqrt (dual zeroD one) ≡ dual zeroD nan) × (slopes .add (dual (inf false) one) (dual one one) ≡ Rules.failed)
 unfolding Rules.sqrt Rules.exp Rules.tanh Rules.choose Rules.given Rules.constant Rules.add Rules.sub Rules.mul Rules.div R.expOf R.exp Root.sqrt floorOf ofBits round ofInt neg add sub mul div lt
 kept = (refl, refl, refl, refl, refl, refl, refl, refl)
+
+-- Inner terms are no slopes: with b = 2^600 the quotient's b × b is infinite, and its slope is 0; with b = 2^-600 it vanishes, and 0 / 0 is no slope. A slope −0 is kept.
+abbrev large : Float
+large = round binary64 false (2 ^ 600) 1
+
+abbrev small : Float
+small = round binary64 false 1 (2 ^ 600)
+
+inner : (slopes .div (dual one one) (dual large zeroD) ≡ dual small zeroD) × (slopes .div (dual zeroD zeroD) (dual small zeroD) ≡ dual zeroD nan)
+    × (Rules.start Rules.strict one (neg zeroD) ≡ dual one (neg zeroD))
+unfolding Rules.div Rules.start ofBits round neg add sub mul div
+inner = (refl, refl, refl)

@@ -69,7 +69,7 @@ plain = record {
 unfoldable pub choose : Limit → Dual → Dual → Dual → Dual
 choose l v a b = dual (tested l (v .value) (a .value) (b .value)) (tested l (v .value) (a .slope) (b .slope))
 
--- x in a case that v has: a slope of v that is not finite is not lost
+-- x in a case that v has: a slope of v that is not finite is not lost. (Whether v is finite, `choose` asks for the value.)
 unfoldable pub given : Dual → Dual → Dual
 given v x = dual (x .value) (whereFinite (v .value) (whereFinite (v .slope) (x .slope)))
 

@@ -25,7 +25,7 @@ use Rattle.uvtheory_range.specs.Held.{ContributionsOf as RangesOf}
 use Rattle.uvtheory_dual.specs.declared.contributions.Contributions.{Contributions as HeldDuals}
 use Rattle.uvtheory_dual.specs.Held.{ContributionsOf as DualsOf}
 use Rattle.eos.specs.Sent.{contributions}
-use Rattle.eos.specs.Slopes as Slopes
+use Rattle.eos.specs.Slopes as WithSlopes
 use Rattle.eos.proofs.Agreement.{contributions-agree}
 use Rattle.eos.proofs.Sloped as Sloped
 use Rattle.case_record.specs.declared.case.Case.{Case}
@@ -140,9 +140,9 @@ ok-value x = go (finite (x .value)) (finite (x .slope))
     go true q h = refl
     go false q h = absurd h
 
-module _ (c : Case) {e : HeldDuals} (are : DualsOf e (Slopes.contributions plain (c .perturbation) (c .mixture) (c .state))) where
+module _ (c : Case) {e : HeldDuals} (are : DualsOf e (WithSlopes.contributions plain (c .perturbation) (c .mixture) (c .state))) where
   abbrev sloped : Contributions Dual
-  sloped = Slopes.contributions strict (c .perturbation) (c .mixture) (c .state)
+  sloped = WithSlopes.contributions strict (c .perturbation) (c .mixture) (c .state)
 
   module _ {b : Bool} (b-is : b ≡ Dual.ok (e .«hard_sphere») && Dual.ok (e .reference) && Dual.ok (e .attractive)) where
     slopes-tested : b ≡ all Dual.ok sloped
@@ -190,7 +190,7 @@ sized-worked ForEnds c =
     choice (choice record { bytes = refl } record { bytes = refl } (all Range.ok (contributions ranges (c .perturbation) (c .mixture) (c .state)))) record { bytes = refl }
     (all finite (contributions doubles (c .perturbation) (c .mixture) (c .state)))
 sized-worked ForSlopes c =
-    let e = Slopes.contributions strict (c .perturbation) (c .mixture) (c .state) in
+    let e = WithSlopes.contributions strict (c .perturbation) (c .mixture) (c .state) in
     choice (choice record { bytes = refl } record { bytes = refl } (all Dual.ok e)) record { bytes = refl } (all (λ (x : Dual). finite (x .value)) e)
 
 pub answers-sized : (kind : Kind) (s : List ℕ) → length (answerTo kind s) ≡ sizeOf (roomOf kind) (codeTo kind s)

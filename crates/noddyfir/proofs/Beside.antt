@@ -13,7 +13,7 @@ use Rattle.dual.specs.Rules.{strict}
 use Rattle.dual.specs.Rules as Dual
 use Rattle.uvtheory.specs.Contributions.{Contributions}
 use Rattle.eos.specs.Sent.{contributions}
-use Rattle.eos.specs.Slopes as Slopes
+use Rattle.eos.specs.Slopes as WithSlopes
 use Rattle.eos.proofs.Sloped.{ValuesAre, values-are}
 use Rattle.case_record.specs.declared.case.Case.{Case}
 use Rattle.case_record.specs.Record.{caseOf}

@@ -15,7 +15,7 @@ use Rattle.dual.specs.Rules.{strict}
 use Rattle.dual.specs.Rules as Dual
 use Rattle.uvtheory.specs.Contributions.{Contributions}
 use Rattle.eos.specs.Sent.{contributions}
-use Rattle.eos.specs.Slopes as Slopes
+use Rattle.eos.specs.Slopes as WithSlopes
 use Rattle.case_record.specs.declared.case.Case.{Case}
 use Rattle.case_record.specs.Bytes.{written}
 use Rattle.case_record.specs.Record.{caseOf}
@@ -56,7 +56,7 @@ finiteOr9Or11 e =
     cond (all (λ x. finite (x .value)) e) (cond (all Dual.ok e) (Slopes (e .hard-sphere) (e .reference) (e .attractive)) (Refused 11)) (Refused 9)
 
 unfoldable pub slopesOf : Case → Answer
-slopesOf c = finiteOr9Or11 (Slopes.contributions strict (c .perturbation) (c .mixture) (c .state))
+slopesOf c = finiteOr9Or11 (WithSlopes.contributions strict (c .perturbation) (c .mixture) (c .state))
 
 -- ---- by kind: what is worked of a case, and the room that an answer may need
 abbrev pub workedOf : Kind → Case → Answer
@@ -90,7 +90,7 @@ abbrev pub slopesAnswer : List ℕ → List ℕ
 slopesAnswer s = answerTo ForSlopes s
 
 -- ---- The answer buffer. `room` is what it must have.
--- "under 28 bytes (energies) or 52 (ends); nothing is written": code 1, or else that of the answer
+-- "under 28 bytes (energies) or 52 (ends); nothing is written", and M-100: "code 1 below that"; else the code is that of the answer
 abbrev pub callCode : ℕ → ℕ → List ℕ → ℕ
 callCode room code buffer = cond (ltb (length buffer) room) 1 code
 

@@ -1,5 +1,5 @@
--- The run of document 01: what it does with the bytes of records and an answer buffer. `room` is what one answer may need, 28 bytes for energies,
--- and `answer` gives a record's answer.
+-- The run of document 01: what it does with the bytes of records and an answer buffer. `room` is what one answer may need, 28 bytes for energies
+-- and 52 for ends and slopes, and `answer` gives a record's answer.
 use Prim.Native.Nat.{ℕ, zero, suc, _+_}
 use mathlib.Core.List.{List, _++_}
 use mathlib.Core.Bool.{cond, _&&_}
