@@ -1,5 +1,5 @@
 #!/usr/bin/env python3
-"""How much of the proved 2^-50 the polynomials of exp and ln use, and how near their arguments come to the limits (docs/ACCURACY.md, part 5).
+"""How much of the proved 2^-50 the polynomials of exp and ln use, and how near their arguments come to the limits (docs/ACCURACY.md, part 6).
 
 The proof is in crates/arithmetic (specs/Series.antt, specs/Reduction.antt); this measures. The arguments are the same in each run.
 Python's floats are IEEE 754 doubles, so the recipes are worked here operation by operation; partial sums are exact fractions.
