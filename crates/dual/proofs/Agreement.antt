@@ -155,7 +155,7 @@ of-start (fin t m e) s = same refl
 
 constant-kept : (k : Float) → Same (Rules.constant plain k) (Rules.constant strict k)
 unfolding Rules.constant
-constant-kept k = of-start k (whereFinite k zeroD)
+constant-kept k = of-start k _
 
 pub start-kept : (k s : Float) → Same (Rules.start plain k s) (Rules.start strict k s)
 unfolding Rules.start
