@@ -9,40 +9,18 @@ The code does not test what every rule keeps, so a compiled result is tested her
 The operands are the same in each run. Ends with a status other than 0 where anything differs.
 Needs x86-64 Linux, rt and a C compiler (CC, or cc); writes below target/ only.
 """
-import contextlib
 import ctypes
-import io
 import random
 import struct
 import sys
-import time
-import types
 from math import inf, isfinite, nan, nextafter
-from pathlib import Path
 
 sys.dont_write_bytecode = True
 import dual_rules as rules
+from comparison import OPERATIONS, build, run
 from dual_rules import made
-from ranges import EDGES, build
+from ranges import EDGES
 
-HERE = Path(__file__).resolve().parent
-
-# The operations in the order of their numbers (crates/measured/specs/Applied.antt), with the rule of each.
-OPERATIONS = {
-    "neg": lambda k, t, a, b: rules.neg(a),
-    "add": lambda k, t, a, b: rules.add(a, b),
-    "sub": lambda k, t, a, b: rules.sub(a, b),
-    "mul": lambda k, t, a, b: rules.mul(a, b),
-    "div": lambda k, t, a, b: rules.div(a, b),
-    "powi": lambda k, t, a, b: rules.powi(a, k),
-    "sqrt": lambda k, t, a, b: rules.sqrt(a),
-    "ln": lambda k, t, a, b: rules.ln(a),
-    "ln_1p": lambda k, t, a, b: rules.ln_1p(a),
-    "exp": lambda k, t, a, b: rules.exp(a),
-    "powf": lambda k, t, a, b: rules.powf(a, b),
-    "tanh": lambda k, t, a, b: rules.tanh(a),
-    "if_below": lambda k, t, a, b: rules.if_below(a, t, a, b),
-}
 # The functions on doubles, of the values.
 DOUBLES = {
     "div": lambda f, k, a, b: f(a, b),
@@ -146,10 +124,10 @@ def shown(*doubles):
     return ", ".join(double.hex() for double in doubles)
 
 
-def compare(compiled, op, name, count):
+def compare(compiled, rules, op, name, count):
     total = sloped = valued = differ = 0
     for k, t, a, b in Operands(op).of(count):
-        expected = OPERATIONS[name](k, t, made(*a), made(*b))
+        expected = OPERATIONS[name](rules, k, t, made(*a), made(*b))
         found = compiled.call(op, k, t, a, b)
         value = expected[0]
         if name in DOUBLES:
@@ -165,39 +143,13 @@ def compare(compiled, op, name, count):
     return differ
 
 
-def differences(compiled, quick):
+def differences(compiled, rules, quick):
     """Of each operation in turn."""
-    for op, name in enumerate(OPERATIONS):
-        yield compare(compiled, op, name, 9000 if quick else 200000)
-
-
-def see_slips(compiled):
-    global rules
-    text = (HERE / "dual_rules.py").read_text()
-    for slip in (HERE / "dual_slips.txt").read_text().splitlines():
-        old, new = slip.split(" => ")
-        if text.count(old) != 1:
-            sys.exit(f"does not apply: {slip}")
-        rules = types.ModuleType("slip")
-        exec(text.replace(old, new), rules.__dict__)
-        compiled.give(rules)
-        with contextlib.redirect_stdout(io.StringIO()):
-            seen = any(differences(compiled, True))
-        if not seen:
-            sys.exit(f"not seen: {slip}")
-        print(f"seen: {slip}", flush=True)
-
-
-def main():
-    compiled = Compiled(build())
     compiled.give(rules)
-    if sys.argv[1:] == ["--slips"]:
-        return see_slips(compiled)
-    started = time.monotonic()
-    differ = sum(differences(compiled, sys.argv[1:] == ["--quick"]))
-    print(f"duals: {differ} differ; {time.monotonic() - started:.0f} seconds")
-    sys.exit(differ > 0)
+    for op, name in enumerate(OPERATIONS):
+        yield compare(compiled, rules, op, name, 9000 if quick else 200000)
 
 
 if __name__ == "__main__":
-    main()
+    compiled = Compiled(build())
+    run("dual", rules, lambda given, quick: differences(compiled, given, quick))

@@ -8,59 +8,24 @@ measure/ranges.py --slips  makes the slips of range_slips.txt in the rules, one 
 The operands are the same in each run. Ends with a status other than 0 where anything differs.
 Needs x86-64 Linux, rt and a C compiler (CC, or cc); writes below target/ only.
 """
-import contextlib
 import ctypes
-import io
-import os
 import random
 import struct
-import subprocess
 import sys
-import time
-import types
-from pathlib import Path
 
 sys.dont_write_bytecode = True
+import comparison
 import range_rules as rules
+from comparison import build, run
 from range_rules import INFINITY, LARGEST, NAN, ONE, SIGN, double_of, is_finite, nearest, next_down, next_up, units
 
-HERE = Path(__file__).resolve().parent
-TARGET = HERE.parent / "target"
-
-# The operations in the order of their numbers (crates/measured/specs/Applied.antt), with the rule of each.
-OPERATIONS = {
-    "neg": lambda k, t, a, b: rules.neg(a),
-    "add": lambda k, t, a, b: rules.add(a, b),
-    "sub": lambda k, t, a, b: rules.sub(a, b),
-    "mul": lambda k, t, a, b: rules.mul(a, b),
-    "div": lambda k, t, a, b: rules.div(a, b),
-    "powi": lambda k, t, a, b: rules.powi(a, k),
-    "sqrt": lambda k, t, a, b: rules.sqrt(a),
-    "ln": lambda k, t, a, b: rules.ln(a),
-    "ln_1p": lambda k, t, a, b: rules.ln_1p(a),
-    "exp": lambda k, t, a, b: rules.exp(a),
-    "powf": lambda k, t, a, b: rules.powf(a, b),
-    "tanh": lambda k, t, a, b: rules.tanh(a),
-    "if_below": lambda k, t, a, b: rules.if_below(a, t, a, b),
-    "if_above": lambda k, t, a, b: rules.if_above(a, t, a, b),
-}
+OPERATIONS = comparison.OPERATIONS | {"if_above": lambda r, k, t, a, b: r.if_above(a, t, a, b)}
 ELEMENTARY = {"ln", "ln_1p", "exp", "powf", "tanh"}
 OF_TWO = {"add", "sub", "mul", "div", "powf"}
 FAILED = (NAN, NAN)
 
 
 # ---- the compiled operations
-
-
-def build():
-    """The shared object."""
-    archive, shared = TARGET / "staticlib/libmeasured.a", TARGET / "measure/libmeasured.so"
-    if subprocess.run([HERE.parent / "tools/archive", "measured"]).returncode != 0:
-        sys.exit(1)
-    shared.parent.mkdir(parents=True, exist_ok=True)
-    whole = ["-Wl,--whole-archive", str(archive), "-Wl,--no-whole-archive"]
-    subprocess.run([os.environ.get("CC", "cc"), "-shared", "-o", str(shared), *whole], check=True)
-    return shared
 
 
 def compiled_operations(shared):
@@ -182,12 +147,12 @@ def same(one, other):
     return all(x == y or is_nan(x) and is_nan(y) for x, y in zip(one, other))
 
 
-def compare(call, op, name, crossed, count):
+def compare(call, rules, op, name, crossed, count):
     total = with_ends = differ = 0
     results = set()
     for k, t, a, b in Operands(op).of(name, crossed, count):
         try:
-            expected = OPERATIONS[name](k, t, a, b)
+            expected = OPERATIONS[name](rules, k, t, a, b)
         except rules.Fails:
             expected = FAILED
         total += 1
@@ -203,43 +168,15 @@ def compare(call, op, name, crossed, count):
     return differ
 
 
-def differences(call, quick):
+def differences(call, rules, quick):
     """Of each operation in turn."""
     for op, name in enumerate(OPERATIONS):
         if name in ELEMENTARY:
-            yield compare(call, op, name, *((240, 1500) if quick else (10000, 40000)))
+            yield compare(call, rules, op, name, *((240, 1500) if quick else (10000, 40000)))
         else:
-            yield compare(call, op, name, *((3240, 8000) if quick else (len(EDGES) ** 2, 200000)))
-
-
-def see_slips(call):
-    global rules
-    text = (HERE / "range_rules.py").read_text()
-    for slip in (HERE / "range_slips.txt").read_text().splitlines():
-        old, new = slip.split(" => ")
-        if text.count(old) != 1:
-            sys.exit(f"does not apply: {slip}")
-        rules = types.ModuleType("slip")
-        exec(text.replace(old, new), rules.__dict__)
-        with contextlib.redirect_stdout(io.StringIO()):
-            try:
-                seen = any(differences(call, True))
-            except AssertionError:
-                seen = True
-        if not seen:
-            sys.exit(f"not seen: {slip}")
-        print(f"seen: {slip}", flush=True)
-
-
-def main():
-    call = compiled_operations(build())
-    if sys.argv[1:] == ["--slips"]:
-        return see_slips(call)
-    started = time.monotonic()
-    differ = sum(differences(call, sys.argv[1:] == ["--quick"]))
-    print(f"ranges: {differ} differ; {time.monotonic() - started:.0f} seconds")
-    sys.exit(differ > 0)
+            yield compare(call, rules, op, name, *((3240, 8000) if quick else (len(EDGES) ** 2, 200000)))
 
 
 if __name__ == "__main__":
-    main()
+    call = compiled_operations(build())
+    run("range", rules, lambda given, quick: differences(call, given, quick))

@@ -15,7 +15,8 @@ from math import isqrt
 
 sys.dont_write_bytecode = True
 from range_rules import INFINITY, NAN, SIGN, double_of, is_finite, root, units
-from ranges import build, is_nan
+from comparison import build
+from ranges import is_nan
 
 FULL = 54
 

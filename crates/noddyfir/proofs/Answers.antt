@@ -51,14 +51,14 @@ module _ (kind : Kind) (s : List ℕ) where
   accepted h = simp (eq-eqb (refusalOf s) 0 h)
 
 -- ---- three tests
-both-ways : {p q r p′ q′ r′ : Bool} → p ≡ p′ → q ≡ q′ → r ≡ r′ → p && q && r ≡ p′ && q′ && r′
-both-ways h k l = rw (h, k, l)
+each-same : {p q r p′ q′ r′ : Bool} → p ≡ p′ → q ≡ q′ → r ≡ r′ → p && q && r ≡ p′ && q′ && r′
+each-same h k l = rw (h, k, l)
 
-first : (p q r : Bool) → p && q && r ≡ true → T p × T q × T r
-first true true true e = (tt, tt, tt)
-first true true false e = let z : T false = subst T (sym e) tt in absurd z
-first true false r e = let z : T false = subst T (sym e) tt in absurd z
-first false q r e = let z : T false = subst T (sym e) tt in absurd z
+each-true : (p q r : Bool) → p && q && r ≡ true → T p × T q × T r
+each-true true true true e = (tt, tt, tt)
+each-true true true false e = let z : T false = subst T (sym e) tt in absurd z
+each-true true false r e = let z : T false = subst T (sym e) tt in absurd z
+each-true false q r e = let z : T false = subst T (sym e) tt in absurd z
 
 -- ---- The code tests its three energies once. The definition's are NaN from the first value on that is not finite. The answers are the same.
 finite-checked : (x : Float) → finite x ≡ finite (checked x)
@@ -87,13 +87,13 @@ module _ (c : Case) {e : Held} (are : ContributionsOf e (contributions guarded (
   tested : b ≡ all finite d
   tested =
       let a = contributions-agree (c .perturbation) (c .mixture) (c .state) in
-      b-is ∙ both-ways (test-is (are .hard-sphere-is) (a .hard-sphere-is)) (test-is (are .reference-is) (a .reference-is)) (test-is (are .attractive-is) (a .attractive-is))
+      b-is ∙ each-same (test-is (are .hard-sphere-is) (a .hard-sphere-is)) (test-is (are .reference-is) (a .reference-is)) (test-is (are .attractive-is) (a .attractive-is))
 
   pub all-finite : b ≡ true → Energies (e .«hard_sphere») (e .reference) (e .attractive) ≡ energiesOf c
   unfolding energiesOf finiteOr9
   all-finite h =
       let a = contributions-agree (c .perturbation) (c .mixture) (c .state) in
-      let t = first (finite (e .«hard_sphere»)) (finite (e .reference)) (finite (e .attractive)) (sym b-is ∙ h) in
+      let t = each-true (finite (e .«hard_sphere»)) (finite (e .reference)) (finite (e .attractive)) (sym b-is ∙ h) in
       rw (sym tested ∙ h, value-is (are .hard-sphere-is) (a .hard-sphere-is) (t .0), value-is (are .reference-is) (a .reference-is) (t .1), value-is (are .attractive-is) (a .attractive-is) (t .2))
 
   pub not-all-finite : b ≡ false → Refused 9 ≡ energiesOf c
@@ -133,12 +133,13 @@ module _ {h g d : Dual} (held : h ≡ g) (agrees : Same g d) where
   dual-value-tested : finite (h .value) ≡ finite (d .value)
   dual-value-tested = ap (λ (x : Dual). finite (x .value)) held ∙ finite-checked (g .value) ∙ ap (λ (x : Dual). finite (x .value)) (agrees .is)
 
-ok-value : (x : Dual) → T (Dual.ok x) → finite (x .value) ≡ true
-ok-value x = go (finite (x .value)) (finite (x .slope))
+-- where both halves of h are finite, so is the value of what it is
+ok-value : {h d : Dual} → T (Dual.ok h) → h ≡ d → finite (d .value) ≡ true
+ok-value {h} k is = ap (λ (x : Dual). finite (x .value)) (sym is) ∙ go (finite (h .value)) (finite (h .slope)) k
   where
     go : (p q : Bool) → T (p && q) → p ≡ true
-    go true q h = refl
-    go false q h = absurd h
+    go true q k = refl
+    go false q k = absurd k
 
 module _ (c : Case) {e : HeldDuals} (are : DualsOf e (WithSlopes.contributions plain (c .perturbation) (c .mixture) (c .state))) where
   abbrev sloped : Contributions Dual
@@ -148,24 +149,24 @@ module _ (c : Case) {e : HeldDuals} (are : DualsOf e (WithSlopes.contributions p
     slopes-tested : b ≡ all Dual.ok sloped
     slopes-tested =
         let a = Sloped.contributions-agree (c .perturbation) (c .mixture) (c .state) in
-        b-is ∙ both-ways (dual-tested (are .hard-sphere-is) (a .hard-sphere-is)) (dual-tested (are .reference-is) (a .reference-is)) (dual-tested (are .attractive-is) (a .attractive-is))
+        b-is ∙ each-same (dual-tested (are .hard-sphere-is) (a .hard-sphere-is)) (dual-tested (are .reference-is) (a .reference-is)) (dual-tested (are .attractive-is) (a .attractive-is))
 
     pub all-sloped : b ≡ true → Slopes (e .«hard_sphere») (e .reference) (e .attractive) ≡ slopesOf c
     unfolding slopesOf finiteOr9Or11
     all-sloped h =
         let a = Sloped.contributions-agree (c .perturbation) (c .mixture) (c .state) in
-        let t = first (Dual.ok (e .«hard_sphere»)) (Dual.ok (e .reference)) (Dual.ok (e .attractive)) (sym b-is ∙ h) in
+        let t = each-true (Dual.ok (e .«hard_sphere»)) (Dual.ok (e .reference)) (Dual.ok (e .attractive)) (sym b-is ∙ h) in
         let x = dual-is (are .hard-sphere-is) (a .hard-sphere-is) (t .0) in
         let y = dual-is (are .reference-is) (a .reference-is) (t .1) in
         let z = dual-is (are .attractive-is) (a .attractive-is) (t .2) in
-        let v = both-ways (ap (λ (d : Dual). finite (d .value)) (sym x) ∙ ok-value (e .«hard_sphere») (t .0)) (ap (λ (d : Dual). finite (d .value)) (sym y) ∙ ok-value (e .reference) (t .1)) (ap (λ (d : Dual). finite (d .value)) (sym z) ∙ ok-value (e .attractive) (t .2)) in
+        let v = each-same (ok-value (t .0) x) (ok-value (t .1) y) (ok-value (t .2) z) in
         rw (v, sym slopes-tested ∙ h, x, y, z)
 
     module _ {v : Bool} (v-is : v ≡ finite (e .«hard_sphere» .value) && finite (e .reference .value) && finite (e .attractive .value)) (h : b ≡ false) where
       values-tested : v ≡ all (λ (x : Dual). finite (x .value)) sloped
       values-tested =
           let a = Sloped.contributions-agree (c .perturbation) (c .mixture) (c .state) in
-          v-is ∙ both-ways (dual-value-tested (are .hard-sphere-is) (a .hard-sphere-is)) (dual-value-tested (are .reference-is) (a .reference-is)) (dual-value-tested (are .attractive-is) (a .attractive-is))
+          v-is ∙ each-same (dual-value-tested (are .hard-sphere-is) (a .hard-sphere-is)) (dual-value-tested (are .reference-is) (a .reference-is)) (dual-value-tested (are .attractive-is) (a .attractive-is))
 
       pub slope-fails : v ≡ true → Refused 11 ≡ slopesOf c
       unfolding slopesOf finiteOr9Or11

@@ -202,7 +202,14 @@ module _ (r s : Range) (t : SumTests r s) where
       let U : T (finite u) = to-largest u (le-trans zeroD l u z (t .in-order)) (t .to-limit) in
       let lows = terms-finite (r .lower) (s .lower) (finite-between zeroD l u zero-finite U z (t .in-order)) in
       let highs = terms-finite (r .upper) (s .upper) U in
-      rw (is-true (finite (r .lower)) (lows .0), is-true (finite (r .upper)) (highs .0), is-true (finite (s .lower)) (lows .1), is-true (finite (s .upper)) (highs .1), above-nonzero (r .lower) (t .fits-r) (positive-value (r .lower) (lows .0) (t .first)), above-nonzero (s .lower) (t .fits-s) (positive-value (s .lower) (lows .1) (t .second)))
+      rw (
+        is-true (finite (r .lower)) (lows .0),
+        is-true (finite (r .upper)) (highs .0),
+        is-true (finite (s .lower)) (lows .1),
+        is-true (finite (s .upper)) (highs .1),
+        above-nonzero (r .lower) (t .fits-r) (positive-value (r .lower) (lows .0) (t .first)),
+        above-nonzero (s .lower) (t .fits-s) (positive-value (s .lower) (lows .1) (t .second)),
+      )
 
 -- a product of ranges above zero
 abbrev m : Float → Float → Float
@@ -253,4 +260,15 @@ module _ (r s : Range) (t : Factors r s) where
     pub positive-product : Rules.mul r s ≡ outwards (m (r .lower) (s .lower)) (m (r .upper) (s .upper))
     unfolding Rules.mul Rules.four
     positive-product =
-        rw (has-ends r (t .fits-r) (t .positive-r) U, has-ends s (t .fits-s) (t .positive-s) W, no-zero r (t .fits-r) (t .positive-r) U, no-zero s (t .fits-s) (t .positive-s) W, first-least _ _ first-row, first-least _ _ second-row, first-least _ _ first-column, second-greatest _ _ first-row, second-greatest _ _ second-row, second-greatest _ _ second-column)
+        rw (
+          has-ends r (t .fits-r) (t .positive-r) U,
+          has-ends s (t .fits-s) (t .positive-s) W,
+          no-zero r (t .fits-r) (t .positive-r) U,
+          no-zero s (t .fits-s) (t .positive-s) W,
+          first-least _ _ first-row,
+          first-least _ _ second-row,
+          first-least _ _ first-column,
+          second-greatest _ _ first-row,
+          second-greatest _ _ second-row,
+          second-greatest _ _ second-column,
+        )

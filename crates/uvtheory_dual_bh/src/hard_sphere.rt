@@ -45,7 +45,8 @@ fn component_diameter(
     inv_a76: Dual,
 ) -> Dual
     requires { ⌜ «inv_a76» ≡ P.inv-a76 guardedSlopes (guardedSlopes .constant N.six) ⌝ }
-    ensures { λ r. ⌜ r ≡ F.diameter-of guardedSlopes (guardedSlopes .div temperature (guardedSlopes .constant «epsilon_k»)) (P.bh-coefficients guardedSlopes (guardedSlopes .constant rep) (guardedSlopes .constant N.six) 0) (P.bh-coefficients guardedSlopes (guardedSlopes .constant rep) (guardedSlopes .constant N.six) 1) (P.bh-coefficients guardedSlopes (guardedSlopes .constant rep) (guardedSlopes .constant N.six) 2)
+    ensures { λ r. ⌜ r ≡ F.diameter-of guardedSlopes (guardedSlopes .div temperature (guardedSlopes .constant «epsilon_k»))
+        (P.bh-coefficients guardedSlopes (guardedSlopes .constant rep) (guardedSlopes .constant N.six) 0) (P.bh-coefficients guardedSlopes (guardedSlopes .constant rep) (guardedSlopes .constant N.six) 1) (P.bh-coefficients guardedSlopes (guardedSlopes .constant rep) (guardedSlopes .constant N.six) 2)
         (P.bh-coefficients guardedSlopes (guardedSlopes .constant rep) (guardedSlopes .constant N.six) 3) (P.bh-coefficients guardedSlopes (guardedSlopes .constant rep) (guardedSlopes .constant N.six) 4) (guardedSlopes .constant rep) (guardedSlopes .constant sigma) ⌝ }
 {
     let rep = Dual::constant(rep);

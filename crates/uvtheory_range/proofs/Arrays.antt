@@ -27,11 +27,14 @@ module _ (m : Mixture) (c : Combined) (held : CombinedOf m c) where
     epsilon-at = matrix-at missing (m .n) (c .«eps_k_ij») (parameters ranges m .eps-k-ij) (held .epsilon-are) k l
 
   module _ (x : ℕ → Range) where
-    pub virial-sum-held : (e : ℕ) (xs : List Range) (f : ℕ → ℕ → Range) → Matrix (m .n) xs f → O.virial-sum ranges (m .n) x (matrix (m .n) (c .«sigma_ij»)) e (matrix (m .n) xs) ≡ O.virial-sum ranges (m .n) x (parameters ranges m .sigma-ij) e f
+    pub virial-sum-held : (e : ℕ) (xs : List Range) (f : ℕ → ℕ → Range) → Matrix (m .n) xs f
+        → O.virial-sum ranges (m .n) x (matrix (m .n) (c .«sigma_ij»)) e (matrix (m .n) xs) ≡ O.virial-sum ranges (m .n) x (parameters ranges m .sigma-ij) e f
     virial-sum-held = virial-sum-of ranges (λ n f. refl) missing (m .n) x (c .«sigma_ij») (parameters ranges m .sigma-ij) (held .sigma-are)
 
-    pub one-fluid-held : (ds : List Range) (d : ℕ → Range) → Row (m .n) ds d →
-        O.one-fluid-of ranges (m .n) (matrix (m .n) (c .«rep_ij»)) (matrix (m .n) (c .«att_ij»)) (matrix (m .n) (c .«sigma_ij»)) (matrix (m .n) (c .«eps_k_ij»)) (constants (m .sigma)) x (row ds) ≡ O.one-fluid-properties ranges (parameters ranges m) x d
+    pub one-fluid-held : (ds : List Range) (d : ℕ → Range) → Row (m .n) ds d
+        → O.one-fluid-of ranges (m .n) (matrix (m .n) (c .«rep_ij»)) (matrix (m .n) (c .«att_ij»)) (matrix (m .n) (c .«sigma_ij»)) (matrix (m .n) (c .«eps_k_ij»)) (constants (m .sigma)) x (row ds)
+        ≡ O.one-fluid-properties ranges (parameters ranges m) x d
     one-fluid-held ds d =
         let p = parameters ranges m in
-        one-fluid-is ranges (λ n f. refl) missing (m .n) x (c .«rep_ij») (c .«att_ij») (c .«sigma_ij») (c .«eps_k_ij») ds (p .rep-ij) (p .att-ij) (p .sigma-ij) (p .eps-k-ij) (constants (m .sigma)) d (held .rep-are) (held .att-are) (held .sigma-are) (held .epsilon-are)
+        one-fluid-is ranges (λ n f. refl) missing (m .n) x (c .«rep_ij») (c .«att_ij») (c .«sigma_ij») (c .«eps_k_ij») ds
+        (p .rep-ij) (p .att-ij) (p .sigma-ij) (p .eps-k-ij) (constants (m .sigma)) d (held .rep-are) (held .att-are) (held .sigma-are) (held .epsilon-are)

@@ -44,7 +44,8 @@ fn component_diameter(
     inv_a76: Range,
 ) -> Range
     requires { ⌜ «inv_a76» ≡ P.inv-a76 ranges (ranges .constant N.six) ⌝ }
-    ensures { λ r. ⌜ r ≡ F.diameter-of ranges (ranges .div temperature (ranges .constant «epsilon_k»)) (P.bh-coefficients ranges (ranges .constant rep) (ranges .constant N.six) 0) (P.bh-coefficients ranges (ranges .constant rep) (ranges .constant N.six) 1) (P.bh-coefficients ranges (ranges .constant rep) (ranges .constant N.six) 2)
+    ensures { λ r. ⌜ r ≡ F.diameter-of ranges (ranges .div temperature (ranges .constant «epsilon_k»))
+        (P.bh-coefficients ranges (ranges .constant rep) (ranges .constant N.six) 0) (P.bh-coefficients ranges (ranges .constant rep) (ranges .constant N.six) 1) (P.bh-coefficients ranges (ranges .constant rep) (ranges .constant N.six) 2)
         (P.bh-coefficients ranges (ranges .constant rep) (ranges .constant N.six) 3) (P.bh-coefficients ranges (ranges .constant rep) (ranges .constant N.six) 4) (ranges .constant rep) (ranges .constant sigma) ⌝ }
 {
     let rep = Range::constant(rep);

@@ -263,7 +263,8 @@ fn delta_b2_at(
 // Of all pairs: each is worked once, for i up to j, and copied.
 fn delta_b2_ij(n: usize, c: Combined, t: Range, l: LengthTables) -> [Range; 64]
     requires { ⌜ (n ≤ 8) × Symmetric n (c .«rep_ij») × Symmetric n (c .«att_ij») × Symmetric n (c .«eps_k_ij») × Symmetric n (l .q) × Symmetric n (l .rm) ⌝ }
-    ensures { λ r. ⌜ Matrix n r (λ i j. F.delta-b2-of ranges (ranges .div t (matrix n (c .«eps_k_ij») i j)) (matrix n (c .«rep_ij») i j) (matrix n (c .«att_ij») i j) (matrix n (l .q) i j) (mie-prefactor ranges (matrix n (c .«rep_ij») i j) (matrix n (c .«att_ij») i j)) (matrix n (l .rm) i j)) ⌝ }
+    ensures { λ r. ⌜ Matrix n r (λ i j. F.delta-b2-of ranges (ranges .div t (matrix n (c .«eps_k_ij») i j)) (matrix n (c .«rep_ij») i j) (matrix n (c .«att_ij») i j) (matrix n (l .q) i j)
+        (mie-prefactor ranges (matrix n (c .«rep_ij») i j) (matrix n (c .«att_ij») i j)) (matrix n (l .rm) i j)) ⌝ }
 {
     let rep_ij = c.rep_ij;
     let att_ij = c.att_ij;

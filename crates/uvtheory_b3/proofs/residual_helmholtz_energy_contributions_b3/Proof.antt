@@ -19,4 +19,12 @@ returns c =
     }
 
 pub residual-helmholtz-energy-contributions-b3-spec : {M : Type 1} → statement M
-residual-helmholtz-energy-contributions-b3-spec = tie.close (tie.spec (λ c κs. c .before .pre) (λ c κs. c .before .before .pre) (λ c κs. let h = c .before .combine .ensures in (c .before .before .before .pre, rep-symmetric h, att-symmetric h, epsilon-symmetric h)) (λ c κs. c .before .before .before .before .before .before .pre) (λ c κs. (c .before .before .before .before .before .before .before .before .pre, c .before .sum .ensures)) (λ c κs. ((c .before .before .before .before .before .before .before .before .before .pre, c .before .before .before .before .before .before .before .combine .ensures, c .before .before .before .before .before .before .component-lengths .ensures, (lengths-are (c .before .before .before .before .before .before .before .before .before .args .m) (c .before .before .before .before .before .before .before .combine .result) (c .before .before .before .before .before .before .before .before .before .args .s .temperature) (c .before .before .before .before .before .pair-lengths .result) (c .before .before .before .before .before .before .before .combine .ensures) (c .before .before .before .before .before .pair-lengths .ensures .0) (c .before .before .before .before .before .pair-lengths .ensures .1))), c .before .before .sum .ensures)) (λ c κs. ((c .before .before .before .before .before .before .before .before .before .before .before .pre, c .before .before .before .before .before .before .before .before .before .combine .ensures, (lengths-are (c .before .before .before .before .before .before .before .before .before .before .before .args .m) (c .before .before .before .before .before .before .before .before .before .combine .result) (c .before .before .before .before .before .before .before .before .before .before .before .args .s .temperature) (c .before .before .before .before .before .before .before .pair-lengths .result) (c .before .before .before .before .before .before .before .before .before .combine .ensures) (c .before .before .before .before .before .before .before .pair-lengths .ensures .0) (c .before .before .before .before .before .before .before .pair-lengths .ensures .1)), c .before .before .before .before .before .before .before .before .component-lengths .ensures .d-are), c .before .before .before .before .sum .ensures)) returns)
+residual-helmholtz-energy-contributions-b3-spec =
+    tie.close
+    (tie.spec (λ c κs. c .before .pre) (λ c κs. c .before .before .pre)
+    (λ c κs. let h = c .before .combine .ensures in (c .before .before .before .pre, rep-symmetric h, att-symmetric h, epsilon-symmetric h))
+    (λ c κs. c .before .before .before .before .before .before .pre)
+    (λ c κs. (c .before .before .before .before .before .before .before .before .pre, c .before .sum .ensures))
+    (λ c κs. ((c .before .before .before .before .before .before .before .before .before .pre, c .before .before .before .before .before .before .before .combine .ensures, c .before .before .before .before .before .before .component-lengths .ensures, (lengths-are (c .before .before .before .before .before .before .before .before .before .args .m) (c .before .before .before .before .before .before .before .combine .result) (c .before .before .before .before .before .before .before .before .before .args .s .temperature) (c .before .before .before .before .before .pair-lengths .result) (c .before .before .before .before .before .before .before .combine .ensures) (c .before .before .before .before .before .pair-lengths .ensures .0) (c .before .before .before .before .before .pair-lengths .ensures .1))), c .before .before .sum .ensures))
+    (λ c κs. ((c .before .before .before .before .before .before .before .before .before .before .before .pre, c .before .before .before .before .before .before .before .before .before .combine .ensures, (lengths-are (c .before .before .before .before .before .before .before .before .before .before .before .args .m) (c .before .before .before .before .before .before .before .before .before .combine .result) (c .before .before .before .before .before .before .before .before .before .before .before .args .s .temperature) (c .before .before .before .before .before .before .before .pair-lengths .result) (c .before .before .before .before .before .before .before .before .before .combine .ensures) (c .before .before .before .before .before .before .before .pair-lengths .ensures .0) (c .before .before .before .before .before .before .before .pair-lengths .ensures .1)), c .before .before .before .before .before .before .before .before .component-lengths .ensures .d-are), c .before .before .before .before .sum .ensures))
+    returns)

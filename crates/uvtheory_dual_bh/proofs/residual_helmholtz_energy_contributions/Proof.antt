@@ -17,4 +17,10 @@ returns c =
     }
 
 pub residual-helmholtz-energy-contributions-spec : {M : Type 1} → statement M
-residual-helmholtz-energy-contributions-spec = tie.close (tie.spec (λ c κs. c .before .pre) (λ c κs. c .before .before .before .pre) (λ c κs. c .before .before .before .before .pre) (λ c κs. (c .before .before .before .before .before .pre, c .sum .ensures)) (λ c κs. ((c .before .before .before .before .before .before .pre, c .before .before .before .before .combine .ensures, c .before .before .diameter-bh .ensures), c .before .sum .ensures)) (λ c κs. ((c .before .before .before .before .before .before .before .pre, c .before .before .before .before .before .combine .ensures, c .before .before .before .diameter-bh .ensures), c .before .before .sum .ensures)) returns)
+residual-helmholtz-energy-contributions-spec =
+    tie.close
+    (tie.spec (λ c κs. c .before .pre) (λ c κs. c .before .before .before .pre) (λ c κs. c .before .before .before .before .pre)
+    (λ c κs. (c .before .before .before .before .before .pre, c .sum .ensures))
+    (λ c κs. ((c .before .before .before .before .before .before .pre, c .before .before .before .before .combine .ensures, c .before .before .diameter-bh .ensures), c .before .sum .ensures))
+    (λ c κs. ((c .before .before .before .before .before .before .before .pre, c .before .before .before .before .before .combine .ensures, c .before .before .before .diameter-bh .ensures), c .before .before .sum .ensures))
+    returns)

@@ -42,4 +42,8 @@ attractive-requires c κs =
     ((combine .before .before .pre, combine .combine .ensures, pairs pair, pair .before .component-lengths .ensures .d-are), c .before .before .sum .ensures)
 
 pub residual-helmholtz-energy-contributions-spec : {M : Type 1} → statement M
-residual-helmholtz-energy-contributions-spec = tie.close (tie.spec (λ c κs. c .before .pre) (λ c κs. c .before .before .before .pre) (λ c κs. let h = c .before .before .combine .ensures in (c .before .before .before .before .pre, rep-symmetric h, att-symmetric h, epsilon-symmetric h)) (λ c κs. c .before .before .before .before .before .before .pre) sphere-requires reference-requires attractive-requires returns)
+residual-helmholtz-energy-contributions-spec =
+    tie.close
+    (tie.spec (λ c κs. c .before .pre) (λ c κs. c .before .before .before .pre)
+    (λ c κs. let h = c .before .before .combine .ensures in (c .before .before .before .before .pre, rep-symmetric h, att-symmetric h, epsilon-symmetric h))
+    (λ c κs. c .before .before .before .before .before .before .pre) sphere-requires reference-requires attractive-requires returns)

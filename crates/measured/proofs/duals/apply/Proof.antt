@@ -73,4 +73,8 @@ returns-14 c =
     c .failed .ensures ∙ sym (List·getD-eq-default (operations guardedSlopes failed (a .k) (a .t) (a .a) (a .b) []) failed {n = a .op} h)
 
 pub apply-spec : {M : Type 1} → statement M
-apply-spec = tie.close (tie.spec (λ c κs. tt) (λ c κs. tt) (λ c κs. tt) (λ c κs. tt) (λ c κs. tt) (λ c κs. tt) (λ c κs. tt) (λ c κs. tt) (λ c κs. tt) (λ c κs. tt) (λ c κs. tt) (λ c κs. tt) (λ c κs. tt) (λ c κs. tt) returns returns-2 returns-3 returns-4 returns-5 returns-6 returns-7 returns-8 returns-9 returns-10 returns-11 returns-12 returns-13 returns-14)
+apply-spec =
+    tie.close
+    (tie.spec (λ c κs. tt) (λ c κs. tt) (λ c κs. tt) (λ c κs. tt) (λ c κs. tt) (λ c κs. tt) (λ c κs. tt) (λ c κs. tt) (λ c κs. tt) (λ c κs. tt)
+    (λ c κs. tt) (λ c κs. tt) (λ c κs. tt) (λ c κs. tt) returns returns-2 returns-3 returns-4 returns-5 returns-6 returns-7 returns-8 returns-9
+    returns-10 returns-11 returns-12 returns-13 returns-14)

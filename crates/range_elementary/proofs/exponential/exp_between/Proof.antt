@@ -152,4 +152,5 @@ returns-6 c =
 pub exp-between-spec : {M : Type 1} → statement M
 exp-between-spec =
     tie.close
-    (tie.spec (λ c κs. tt) (λ c κs. tt) (λ c κs. tt) (λ c κs. tt) (λ c κs. tt) (λ c κs. tt) returns (λ c κs. tt) returns-2 (λ c κs. tt) returns-3 floor-requires int-to-float-if4 (λ c κs. tt) returns-4 add-if5 int-to-float-if5 (λ c κs. tt) returns-5 exp-of-requires returns-6)
+    (tie.spec (λ c κs. tt) (λ c κs. tt) (λ c κs. tt) (λ c κs. tt) (λ c κs. tt) (λ c κs. tt) returns (λ c κs. tt) returns-2 (λ c κs. tt) returns-3
+    floor-requires int-to-float-if4 (λ c κs. tt) returns-4 add-if5 int-to-float-if5 (λ c κs. tt) returns-5 exp-of-requires returns-6)

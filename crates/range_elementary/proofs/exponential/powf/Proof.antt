@@ -29,7 +29,18 @@ if-above-requires-2 c κs = tt
 
 returns-2 : tie.Need-returns-2
 unfolding R.powf
-returns-2 c = rw (c .if-above2 .ensures, c .before .exp .ensures, c .before .before .mul .ensures, c .before .before .before .ln .ensures, c .before .before .before .before .if-below .ensures, c .before .before .before .before .before .failed2 .ensures, c .before .before .before .before .before .before .if-above .ensures, c .before .before .before .before .before .before .before .failed .ensures, zero-constant)
+returns-2 c =
+    rw (
+      c .if-above2 .ensures,
+      c .before .exp .ensures,
+      c .before .before .mul .ensures,
+      c .before .before .before .ln .ensures,
+      c .before .before .before .before .if-below .ensures,
+      c .before .before .before .before .before .failed2 .ensures,
+      c .before .before .before .before .before .before .if-above .ensures,
+      c .before .before .before .before .before .before .before .failed .ensures,
+      zero-constant,
+    )
 
 pub powf-spec : {M : Type 1} → statement M
 powf-spec = tie.close (tie.spec (λ c κs. tt) (λ c κs. tt) returns (λ c κs. tt) if-above-requires (λ c κs. tt) if-below-requires (λ c κs. tt) (λ c κs. tt) (λ c κs. tt) if-above-requires-2 returns-2)

@@ -14,7 +14,19 @@ if-above-requires c κs = tt
 
 returns : tie.Need-returns
 unfolding R.tanh
-returns c = rw (c .if-above .ensures, c .before .if-below .ensures, c .before .before .constant2 .ensures, c .before .before .before .sub .ensures, c .before .before .before .before .div .ensures, c .before .before .before .before .before .add .ensures, c .before .before .before .before .before .before .exp .ensures, c .before .before .before .before .before .before .before .mul .ensures, c .before .before .before .before .before .before .before .before .constant .ensures, one-constant)
+returns c =
+    rw (
+      c .if-above .ensures,
+      c .before .if-below .ensures,
+      c .before .before .constant2 .ensures,
+      c .before .before .before .sub .ensures,
+      c .before .before .before .before .div .ensures,
+      c .before .before .before .before .before .add .ensures,
+      c .before .before .before .before .before .before .exp .ensures,
+      c .before .before .before .before .before .before .before .mul .ensures,
+      c .before .before .before .before .before .before .before .before .constant .ensures,
+      one-constant,
+    )
 
 pub tanh-spec : {M : Type 1} → statement M
 tanh-spec = tie.close (tie.spec (λ c κs. tt) (λ c κs. tt) (λ c κs. tt) (λ c κs. tt) (λ c κs. tt) (λ c κs. tt) (λ c κs. tt) if-below-requires if-above-requires returns)

@@ -31,4 +31,11 @@ unfolding F.weighted-pairs
 returns c = let e : c .before .loop .ij ≡ c .before .before .args .n * c .before .before .args .n = omega arith in rw e at (c .before .loop .inv .1)
 
 pub virial-sum-spec : {M : Type 1} → statement M
-virial-sum-spec = tie.close (tie.spec Inv-loop μ-loop loop-holds (λ c. square-fits (c .before .args .n) (c .before .pre)) (λ c. inside c .some) (λ c. inside c .row .fits) (λ c. inside c .row .below) (λ c. inside (c .before) .some) (λ c. inside (c .before) .column .fits) (λ c. inside (c .before) .column .below) (λ c. inside (c .before .before) .pair .fits) (λ c. inside (c .before .before) .pair .below) (λ c κs. tt) (λ c. inside (c .before .before .before .before) .pair .fits) (λ c. inside (c .before .before .before .before) .pair .below) (λ c. inside (c .before .before .before .before .before) .pair .next) (λ c. inside (c .before .before .before .before .before) .less) loop-again returns)
+virial-sum-spec =
+    tie.close
+    (tie.spec Inv-loop μ-loop loop-holds (λ c. square-fits (c .before .args .n) (c .before .pre)) (λ c. inside c .some) (λ c. inside c .row .fits)
+    (λ c. inside c .row .below) (λ c. inside (c .before) .some) (λ c. inside (c .before) .column .fits) (λ c. inside (c .before) .column .below)
+    (λ c. inside (c .before .before) .pair .fits) (λ c. inside (c .before .before) .pair .below) (λ c κs. tt)
+    (λ c. inside (c .before .before .before .before) .pair .fits) (λ c. inside (c .before .before .before .before) .pair .below)
+    (λ c. inside (c .before .before .before .before .before) .pair .next) (λ c. inside (c .before .before .before .before .before) .less) loop-again
+    returns)

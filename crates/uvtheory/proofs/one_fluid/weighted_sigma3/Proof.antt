@@ -35,4 +35,9 @@ unfolding F.pair-mean
 returns c = let e : c .before .loop .k ≡ c .before .before .args .n * c .before .before .args .n = omega arith in rw e at (c .before .loop .inv .1)
 
 pub weighted-sigma3-spec : {M : Type 1} → statement M
-weighted-sigma3-spec = tie.close (tie.spec Inv-loop μ-loop loop-holds (λ c. square-fits (c .before .args .n) (c .before .pre)) (λ c. inside c .pair .fits) (λ c. inside c .pair .below) (λ c. inside (c .before) .some) (λ c. inside (c .before) .row .fits) (λ c. inside (c .before) .row .below) (λ c. inside (c .before .before) .some) (λ c. inside (c .before .before) .column .fits) (λ c. inside (c .before .before) .column .below) (λ c. inside (c .before .before .before) .pair .next) (λ c. inside (c .before .before .before) .less) loop-again returns)
+weighted-sigma3-spec =
+    tie.close
+    (tie.spec Inv-loop μ-loop loop-holds (λ c. square-fits (c .before .args .n) (c .before .pre)) (λ c. inside c .pair .fits)
+    (λ c. inside c .pair .below) (λ c. inside (c .before) .some) (λ c. inside (c .before) .row .fits) (λ c. inside (c .before) .row .below)
+    (λ c. inside (c .before .before) .some) (λ c. inside (c .before .before) .column .fits) (λ c. inside (c .before .before) .column .below)
+    (λ c. inside (c .before .before .before) .pair .next) (λ c. inside (c .before .before .before) .less) loop-again returns)

@@ -7,7 +7,14 @@ use Rattle.uvtheory.proofs.packing_fraction.packing_fraction_a.Tie as t
 
 returns : tie.Need-returns
 unfolding F.packing-fraction-a powerBy
-returns c = simp (c .coefficient-a4 .ensures, c .before .before .coefficient-a3 .ensures, c .before .before .before .before .coefficient-a2 .ensures, c .before .before .before .before .before .before .coefficient-a .ensures, c .before .before .before .before .before .before .before .before .div .ensures) refl
+returns c =
+    simp (
+      c .coefficient-a4 .ensures,
+      c .before .before .coefficient-a3 .ensures,
+      c .before .before .before .before .coefficient-a2 .ensures,
+      c .before .before .before .before .before .before .coefficient-a .ensures,
+      c .before .before .before .before .before .before .before .before .div .ensures,
+    ) refl
 
 pub packing-fraction-a-spec : {M : Type 1} → statement M
 packing-fraction-a-spec = tie.close (tie.spec (λ c κs. tt) (λ c. search needs) (λ c κs. tt) (λ c. search needs) (λ c κs. tt) (λ c. search needs) (λ c κs. tt) (λ c. search needs) (λ c κs. tt) returns)

@@ -66,4 +66,12 @@ returns c =
     }
 
 pub combine-spec : {M : Type 1} → statement M
-combine-spec = tie.close (tie.spec Inv-loop μ-loop loop-holds (λ c. square-fits (c .before .args .m .n) (c .before .pre)) (λ c. inside c .some) (λ c. inside c .some) (λ c. inside c .mirror-row) (λ c. inside c .mirror-place) (λ c. inside c .mirror .fits) (λ c. inside c .mirror .below) (λ c. inside c .mirror .fits) (λ c. inside c .mirror .below) (λ c. inside c .mirror .fits) (λ c. inside c .mirror .below) (λ c. inside c .mirror .fits) (λ c. inside c .mirror .below) pair-at-requires (λ c. inside (c .before) .pair .fits) (λ c. inside (c .before) .pair .below) (λ c. inside (c .before) .pair .fits) (λ c. inside (c .before) .pair .below) (λ c. inside (c .before) .pair .fits) (λ c. inside (c .before) .pair .below) (λ c. inside (c .before) .pair .fits) (λ c. inside (c .before) .pair .below) (λ c. inside (c .before) .pair .next) (λ c. inside (c .before) .less) loop-again returns)
+combine-spec =
+    tie.close
+    (tie.spec Inv-loop μ-loop loop-holds (λ c. square-fits (c .before .args .m .n) (c .before .pre)) (λ c. inside c .some) (λ c. inside c .some)
+    (λ c. inside c .mirror-row) (λ c. inside c .mirror-place) (λ c. inside c .mirror .fits) (λ c. inside c .mirror .below)
+    (λ c. inside c .mirror .fits) (λ c. inside c .mirror .below) (λ c. inside c .mirror .fits) (λ c. inside c .mirror .below)
+    (λ c. inside c .mirror .fits) (λ c. inside c .mirror .below) pair-at-requires (λ c. inside (c .before) .pair .fits)
+    (λ c. inside (c .before) .pair .below) (λ c. inside (c .before) .pair .fits) (λ c. inside (c .before) .pair .below)
+    (λ c. inside (c .before) .pair .fits) (λ c. inside (c .before) .pair .below) (λ c. inside (c .before) .pair .fits)
+    (λ c. inside (c .before) .pair .below) (λ c. inside (c .before) .pair .next) (λ c. inside (c .before) .less) loop-again returns)

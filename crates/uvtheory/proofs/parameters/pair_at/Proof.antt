@@ -16,4 +16,7 @@ returns-3 c =
     pair-itself i (start .args .j) e refl refl refl refl
 
 pub pair-at-spec : {M : Type 1} → statement M
-pair-at-spec = tie.close (tie.spec (λ c κs. search needs) (λ c. c .pair-of .ensures) returns-2 (λ c. search needs) (λ c. search needs) (λ c. search needs) (λ c. search needs) (λ c. search needs) (λ c. search needs) (λ c. search needs) (λ c. search needs) returns-3)
+pair-at-spec =
+    tie.close
+    (tie.spec (λ c κs. search needs) (λ c. c .pair-of .ensures) returns-2 (λ c. search needs) (λ c. search needs) (λ c. search needs)
+    (λ c. search needs) (λ c. search needs) (λ c. search needs) (λ c. search needs) (λ c. search needs) returns-3)

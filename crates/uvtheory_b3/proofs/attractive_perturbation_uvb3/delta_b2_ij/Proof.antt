@@ -33,7 +33,12 @@ delta-b2-at-requires c κs b =
     let start = c .before .before .before .before .before .before in
     let n = start .args .n in
     let h : l .k < n * n = omega arith in
-    mirror nan (worked n (start .args .t) (start .args .c .«rep_ij») (start .args .c .«eps_k_ij») (start .args .l .q) (start .args .l .rm)) n (l .k) (l .b2) h b (l .inv .1 .1) ∙ rw (start .pre .1 (l .k) h b, start .pre .2 (l .k) h b, start .pre .3 (l .k) h b, start .pre .4 (l .k) h b)
+    mirror nan (worked n (start .args .t) (start .args .c .«rep_ij») (start .args .c .«eps_k_ij») (start .args .l .q) (start .args .l .rm)) n (l .k) (l .b2) h b (l .inv .1 .1) ∙ rw (
+      start .pre .1 (l .k) h b,
+      start .pre .2 (l .k) h b,
+      start .pre .3 (l .k) h b,
+      start .pre .4 (l .k) h b,
+    )
 
 loop-again : tie.Need-loop-again Inv-loop μ-loop
 loop-again c =
@@ -49,4 +54,12 @@ returns : tie.Need-returns Inv-loop μ-loop
 returns c = λ k h. c .before .loop .inv .1 .1 k (omega arith)
 
 pub delta-b2-ij-spec : {M : Type 1} → statement M
-delta-b2-ij-spec = tie.close (tie.spec Inv-loop μ-loop loop-holds (λ c. square-fits (c .before .before .before .before .before .args .n) (c .before .before .before .before .before .pre .0)) (λ c. inside c .some) (λ c. inside c .some) (λ c. inside c .pair .fits) (λ c. inside c .pair .below) (λ c. inside c .pair .fits) (λ c. inside c .pair .below) (λ c. inside c .pair .fits) (λ c. inside c .pair .below) (λ c. inside c .pair .fits) (λ c. inside c .pair .below) (λ c. inside c .mirror-row) (λ c. inside c .mirror-place) (λ c. inside c .mirror .fits) (λ c. inside c .mirror .below) delta-b2-at-requires (λ c. inside (c .before) .pair .fits) (λ c. inside (c .before) .pair .below) (λ c. inside (c .before) .pair .next) (λ c. inside (c .before) .less) loop-again returns)
+delta-b2-ij-spec =
+    tie.close
+    (tie.spec Inv-loop μ-loop loop-holds
+    (λ c. square-fits (c .before .before .before .before .before .args .n) (c .before .before .before .before .before .pre .0)) (λ c. inside c .some)
+    (λ c. inside c .some) (λ c. inside c .pair .fits) (λ c. inside c .pair .below) (λ c. inside c .pair .fits) (λ c. inside c .pair .below)
+    (λ c. inside c .pair .fits) (λ c. inside c .pair .below) (λ c. inside c .pair .fits) (λ c. inside c .pair .below) (λ c. inside c .mirror-row)
+    (λ c. inside c .mirror-place) (λ c. inside c .mirror .fits) (λ c. inside c .mirror .below) delta-b2-at-requires
+    (λ c. inside (c .before) .pair .fits) (λ c. inside (c .before) .pair .below) (λ c. inside (c .before) .pair .next) (λ c. inside (c .before) .less)
+    loop-again returns)

@@ -44,4 +44,15 @@ returns : tie.Need-returns Inv-loop μ-loop
 returns c = λ k h. c .before .loop .inv .1 .1 k (omega arith)
 
 pub delta-b3-ij-spec : {M : Type 1} → statement M
-delta-b3-ij-spec = tie.close (tie.spec Inv-loop μ-loop loop-holds (λ c. square-fits (c .before .before .before .before .before .args .n) (c .before .before .before .before .before .pre)) (λ c. inside c .some) (λ c. inside c .some) (λ c. inside c .pair .fits) (λ c. inside c .pair .below) (λ c. inside c .pair .fits) (λ c. inside c .pair .below) (λ c. inside c .pair .fits) (λ c. inside c .pair .below) (λ c. inside c .pair .fits) (λ c. inside c .pair .below) (λ c. inside c .row .fits) (λ c. inside c .row .below) (λ c. inside (c .before) .row .fits) (λ c. inside (c .before) .row .below) (λ c. inside (c .before .before) .column .fits) (λ c. inside (c .before .before) .column .below) (λ c. inside (c .before .before .before) .column .fits) (λ c. inside (c .before .before .before) .column .below) (λ c κs. tt) (λ c. inside (c .before .before .before .before .before) .pair .fits) (λ c. inside (c .before .before .before .before .before) .pair .below) (λ c. inside (c .before .before .before .before .before) .pair .next) (λ c. inside (c .before .before .before .before .before) .less) loop-again returns)
+delta-b3-ij-spec =
+    tie.close
+    (tie.spec Inv-loop μ-loop loop-holds
+    (λ c. square-fits (c .before .before .before .before .before .args .n) (c .before .before .before .before .before .pre)) (λ c. inside c .some)
+    (λ c. inside c .some) (λ c. inside c .pair .fits) (λ c. inside c .pair .below) (λ c. inside c .pair .fits) (λ c. inside c .pair .below)
+    (λ c. inside c .pair .fits) (λ c. inside c .pair .below) (λ c. inside c .pair .fits) (λ c. inside c .pair .below) (λ c. inside c .row .fits)
+    (λ c. inside c .row .below) (λ c. inside (c .before) .row .fits) (λ c. inside (c .before) .row .below)
+    (λ c. inside (c .before .before) .column .fits) (λ c. inside (c .before .before) .column .below)
+    (λ c. inside (c .before .before .before) .column .fits) (λ c. inside (c .before .before .before) .column .below) (λ c κs. tt)
+    (λ c. inside (c .before .before .before .before .before) .pair .fits) (λ c. inside (c .before .before .before .before .before) .pair .below)
+    (λ c. inside (c .before .before .before .before .before) .pair .next) (λ c. inside (c .before .before .before .before .before) .less) loop-again
+    returns)

@@ -29,7 +29,12 @@ returns c =
     let q : ℕ → ℕ → Float = λ i j. dimensionless-diameter-q-wca guarded (guarded .div t (p .eps-k-ij i j)) (p .rep-ij i j) (p .att-ij i j) in
     let one-fluid = one-fluid-held m a held x (start .args .d .now) (diameter-wca guarded p t) (start .pre .0 .3) in
     let virial = virial-sum-held m a held x 3 (c .before .before .before .before .before .before .before .before .before .before .before .before .before .before .delta-b2-ij .result) (F.delta-b2-ij guarded p t)
-    (λ k l. c .before .before .before .before .before .before .before .before .before .before .before .before .before .before .delta-b2-ij .ensures k l ∙ rw (matrix-at nan n (start .args .l .q) q (lengths .q-are) k l, matrix-at nan n (start .args .l .rm) rm (lengths .rm-are) k l, rep-at m a held k l, epsilon-at m a held k l)) in
+    (λ k l. c .before .before .before .before .before .before .before .before .before .before .before .before .before .before .delta-b2-ij .ensures k l ∙ rw (
+      matrix-at nan n (start .args .l .q) q (lengths .q-are) k l,
+      matrix-at nan n (start .args .l .rm) rm (lengths .rm-are) k l,
+      rep-at m a held k l,
+      epsilon-at m a held k l,
+    )) in
     let third = virial-sum-held m a held x 6 (c .before .before .before .before .before .before .before .before .delta-b3-ij .result) (F.delta-b3-ij guarded p t (diameter-wca guarded p t))
     (λ k l. c .before .before .before .before .before .before .before .before .delta-b3-ij .ensures k l ∙ rw (
       matrix-at nan n (start .args .l .q) q (lengths .q-are) k l,
@@ -39,7 +44,24 @@ returns c =
       start .pre .0 .3 (k / n) (row-of n k l),
       start .pre .0 .3 (k % n) (column-of n k l),
     )) in
-    c .energy .ensures ∙ rw (c .before .before .before .before .before .before .before .before .before .before .before .before .before .before .before .one-fluid-properties .ensures, one-fluid, c .before .mean-cube .ensures, c .before .before .before .before .before .before .before .before .before .before .virial-sum .ensures, virial, c .before .before .before .before .virial-sum2 .ensures, third, start .pre .1)
+    c .energy .ensures ∙ rw (
+      c .before .before .before .before .before .before .before .before .before .before .before .before .before .before .before .one-fluid-properties .ensures,
+      one-fluid,
+      c .before .mean-cube .ensures,
+      c .before .before .before .before .before .before .before .before .before .before .virial-sum .ensures,
+      virial,
+      c .before .before .before .before .virial-sum2 .ensures,
+      third,
+      start .pre .1,
+    )
 
 pub helmholtz-energy-density-spec : {M : Type 1} → statement M
-helmholtz-energy-density-spec = tie.close (tie.spec (λ c κs. c .before .before .before .before .before .pre .0 .0) (λ c κs. let start = c .before .before .before .before .before .before in let h = start .pre .0 .1 in let l = start .pre .0 .2 in (start .pre .0 .0, rep-symmetric h, epsilon-symmetric h, q-symmetric l, rm-symmetric l)) (λ c κs. c .before .before .before .before .before .before .before .before .before .before .pre .0 .0) (λ c κs. c .before .before .before .before .before .before .before .before .before .before .before .before .pre .0 .0) (λ c κs. c .before .before .before .before .before .before .before .before .before .before .before .before .before .before .before .before .pre .0 .0) (λ c κs. c .before .before .before .before .before .before .before .before .before .before .before .before .before .before .before .before .before .before .before .pre .0 .0) (λ c κs. tt) returns)
+helmholtz-energy-density-spec =
+    tie.close
+    (tie.spec (λ c κs. c .before .before .before .before .before .pre .0 .0)
+    (λ c κs. let start = c .before .before .before .before .before .before in let h = start .pre .0 .1 in let l = start .pre .0 .2 in (start .pre .0 .0, rep-symmetric h, epsilon-symmetric h, q-symmetric l, rm-symmetric l))
+    (λ c κs. c .before .before .before .before .before .before .before .before .before .before .pre .0 .0)
+    (λ c κs. c .before .before .before .before .before .before .before .before .before .before .before .before .pre .0 .0)
+    (λ c κs. c .before .before .before .before .before .before .before .before .before .before .before .before .before .before .before .before .pre .0 .0)
+    (λ c κs. c .before .before .before .before .before .before .before .before .before .before .before .before .before .before .before .before .before .before .before .pre .0 .0)
+    (λ c κs. tt) returns)

@@ -51,4 +51,10 @@ returns : tie.Need-returns Inv-loop μ-loop
 returns c = λ k h. c .before .loop .inv .1 .1 k (omega arith)
 
 pub delta-b2-ij-spec : {M : Type 1} → statement M
-delta-b2-ij-spec = tie.close (tie.spec Inv-loop μ-loop loop-holds (λ c. square-fits (c .before .before .before .before .args .n) (c .before .before .before .before .pre .0)) (λ c. inside c .some) (λ c. inside c .some) (λ c. inside c .pair .fits) (λ c. inside c .pair .below) (λ c. inside c .pair .fits) (λ c. inside c .pair .below) (λ c. inside c .pair .fits) (λ c. inside c .pair .below) (λ c. inside c .mirror-row) (λ c. inside c .mirror-place) (λ c. inside c .mirror .fits) (λ c. inside c .mirror .below) delta-b2-at-requires (λ c. inside (c .before) .pair .fits) (λ c. inside (c .before) .pair .below) (λ c. inside (c .before) .pair .next) (λ c. inside (c .before) .less) loop-again returns)
+delta-b2-ij-spec =
+    tie.close
+    (tie.spec Inv-loop μ-loop loop-holds (λ c. square-fits (c .before .before .before .before .args .n) (c .before .before .before .before .pre .0))
+    (λ c. inside c .some) (λ c. inside c .some) (λ c. inside c .pair .fits) (λ c. inside c .pair .below) (λ c. inside c .pair .fits)
+    (λ c. inside c .pair .below) (λ c. inside c .pair .fits) (λ c. inside c .pair .below) (λ c. inside c .mirror-row) (λ c. inside c .mirror-place)
+    (λ c. inside c .mirror .fits) (λ c. inside c .mirror .below) delta-b2-at-requires (λ c. inside (c .before) .pair .fits)
+    (λ c. inside (c .before) .pair .below) (λ c. inside (c .before) .pair .next) (λ c. inside (c .before) .less) loop-again returns)

@@ -26,4 +26,8 @@ returns c =
     c .energy .ensures ∙ rw (o .one-fluid-properties .ensures, one-fluid, c .before .mean-cube .ensures, c .before .before .before .before .virial-sum .ensures, virial, start .pre .1)
 
 pub helmholtz-energy-density-spec : {M : Type 1} → statement M
-helmholtz-energy-density-spec = tie.close (tie.spec (λ c κs. search needs) (λ c κs. let start = c .before .before .before .before .before .before in let h = start .pre .0 .1 in (start .pre .0 .0, rep-symmetric h, att-symmetric h, epsilon-symmetric h)) (λ c κs. search needs) (λ c κs. search needs) (λ c κs. tt) returns)
+helmholtz-energy-density-spec =
+    tie.close
+    (tie.spec (λ c κs. search needs)
+    (λ c κs. let start = c .before .before .before .before .before .before in let h = start .pre .0 .1 in (start .pre .0 .0, rep-symmetric h, att-symmetric h, epsilon-symmetric h))
+    (λ c κs. search needs) (λ c κs. search needs) (λ c κs. tt) returns)

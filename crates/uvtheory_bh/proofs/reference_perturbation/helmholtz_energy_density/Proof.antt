@@ -31,4 +31,7 @@ returns c =
     c .energy .ensures ∙ rw (c .before .pair-sum .ensures, c .before .before .before .before .before .before .packing-fraction .ensures, packing-fraction-of guarded (λ n f. refl) nan n (row (s .«partial_density»)) ds d h, pairs, start .pre .1)
 
 pub helmholtz-energy-density-spec : {M : Type 1} → statement M
-helmholtz-energy-density-spec = tie.close (tie.spec (λ c κs. c .before .before .before .before .before .before .pre .0 .0) (λ c κs. c .before .before .before .before .before .before .before .before .before .before .before .pre .0 .0) (λ c κs. tt) returns)
+helmholtz-energy-density-spec =
+    tie.close
+    (tie.spec (λ c κs. c .before .before .before .before .before .before .pre .0 .0)
+    (λ c κs. c .before .before .before .before .before .before .before .before .before .before .before .pre .0 .0) (λ c κs. tt) returns)

@@ -26,7 +26,15 @@ loop-holds c = (omega arith, sym zero-constant)
 loop-again : tie.Need-loop-again Inv-loop μ-loop
 loop-again c = (
   omega arith,
-  rw (c .add .ensures, c .before .mul2 .ensures, c .before .before .constant .ensures, c .before .before .before .mul .ensures, c .before .before .before .before .powi .ensures, c .before .before .before .before .before .before .before .before .loop .inv .1, sum-step guardedSlopes (λ n f. refl)),
+  rw (
+    c .add .ensures,
+    c .before .mul2 .ensures,
+    c .before .before .constant .ensures,
+    c .before .before .before .mul .ensures,
+    c .before .before .before .before .powi .ensures,
+    c .before .before .before .before .before .before .before .before .loop .inv .1,
+    sum-step guardedSlopes (λ n f. refl),
+  ),
 )
 
 returns : tie.Need-returns Inv-loop μ-loop
@@ -34,4 +42,7 @@ unfolding F.weighted-zeta
 returns c = let e : c .before .loop .i ≡ c .before .before .args .n = omega arith in rw e at (c .before .loop .inv .1)
 
 pub weighted-zeta-spec : {M : Type 1} → statement M
-weighted-zeta-spec = tie.close (tie.spec Inv-loop μ-loop loop-holds (λ c. search needs) (λ c. search needs) (λ c. search needs) (λ c. search needs) (λ c κs. tt) (λ c κs. tt) (λ c κs. tt) (λ c κs. tt) (λ c κs. tt) (λ c. search needs) (λ c. search needs) loop-again returns)
+weighted-zeta-spec =
+    tie.close
+    (tie.spec Inv-loop μ-loop loop-holds (λ c. search needs) (λ c. search needs) (λ c. search needs) (λ c. search needs) (λ c κs. tt) (λ c κs. tt)
+    (λ c κs. tt) (λ c κs. tt) (λ c κs. tt) (λ c. search needs) (λ c. search needs) loop-again returns)

@@ -22,4 +22,10 @@ returns c =
     )
 
 pub one-fluid-properties-spec : {M : Type 1} → statement M
-one-fluid-properties-spec = tie.close (tie.spec (λ c κs. c .before .before .before .before .pre) (λ c κs. c .before .before .before .before .before .pre) (λ c κs. tt) (λ c κs. c .before .before .before .before .before .before .before .pre) (λ c κs. c .before .before .before .before .before .before .before .before .pre) (λ c κs. c .before .before .before .before .before .before .before .before .before .pre) (λ c κs. tt) (λ c κs. c .before .before .before .before .before .before .before .before .before .before .before .pre) (λ c κs. tt) (λ c κs. tt) returns)
+one-fluid-properties-spec =
+    tie.close
+    (tie.spec (λ c κs. c .before .before .before .before .pre) (λ c κs. c .before .before .before .before .before .pre) (λ c κs. tt)
+    (λ c κs. c .before .before .before .before .before .before .before .pre)
+    (λ c κs. c .before .before .before .before .before .before .before .before .pre)
+    (λ c κs. c .before .before .before .before .before .before .before .before .before .pre) (λ c κs. tt)
+    (λ c κs. c .before .before .before .before .before .before .before .before .before .before .before .pre) (λ c κs. tt) (λ c κs. tt) returns)

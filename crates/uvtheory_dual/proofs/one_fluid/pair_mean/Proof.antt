@@ -36,4 +36,10 @@ unfolding F.pair-mean
 returns c = let e : c .before .loop .ij ≡ c .before .before .args .n * c .before .before .args .n = omega arith in rw e at (c .before .loop .inv .1)
 
 pub pair-mean-spec : {M : Type 1} → statement M
-pair-mean-spec = tie.close (tie.spec Inv-loop μ-loop loop-holds (λ c. square-fits (c .before .args .n) (c .before .pre)) (λ c. inside c .some) (λ c. inside c .row .wide) (λ c. inside c .row .below) (λ c. inside (c .before) .some) (λ c. inside (c .before) .column .wide) (λ c. inside (c .before) .column .below) (λ c κs. tt) (λ c. inside (c .before .before .before) .pair .wide) (λ c. inside (c .before .before .before) .pair .below) (λ c κs. tt) (λ c κs. tt) (λ c κs. tt) (λ c. inside (c .before .before .before .before .before .before .before) .pair .next) (λ c. inside (c .before .before .before .before .before .before .before) .less) loop-again returns)
+pair-mean-spec =
+    tie.close
+    (tie.spec Inv-loop μ-loop loop-holds (λ c. square-fits (c .before .args .n) (c .before .pre)) (λ c. inside c .some) (λ c. inside c .row .wide)
+    (λ c. inside c .row .below) (λ c. inside (c .before) .some) (λ c. inside (c .before) .column .wide) (λ c. inside (c .before) .column .below)
+    (λ c κs. tt) (λ c. inside (c .before .before .before) .pair .wide) (λ c. inside (c .before .before .before) .pair .below) (λ c κs. tt)
+    (λ c κs. tt) (λ c κs. tt) (λ c. inside (c .before .before .before .before .before .before .before) .pair .next)
+    (λ c. inside (c .before .before .before .before .before .before .before) .less) loop-again returns)

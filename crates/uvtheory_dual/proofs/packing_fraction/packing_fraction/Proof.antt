@@ -36,4 +36,7 @@ returns c =
     rw e at (c .before .loop .inv .1) ∙ rw (start .div .ensures, start .before .constant2 .ensures, start .before .before .constant .ensures)
 
 pub packing-fraction-spec : {M : Type 1} → statement M
-packing-fraction-spec = tie.close (tie.spec Inv-loop μ-loop (λ c κs. tt) (λ c κs. tt) (λ c κs. tt) loop-holds (λ c. search needs) (λ c. search needs) (λ c. search needs) (λ c. search needs) (λ c κs. tt) (λ c κs. tt) (λ c κs. tt) (λ c κs. tt) (λ c. search needs) (λ c. search needs) loop-again returns)
+packing-fraction-spec =
+    tie.close
+    (tie.spec Inv-loop μ-loop (λ c κs. tt) (λ c κs. tt) (λ c κs. tt) loop-holds (λ c. search needs) (λ c. search needs) (λ c. search needs)
+    (λ c. search needs) (λ c κs. tt) (λ c κs. tt) (λ c κs. tt) (λ c κs. tt) (λ c. search needs) (λ c. search needs) loop-again returns)

@@ -18,4 +18,8 @@ returns-3 c =
     pair-itself i (start .args .j) same (c .before .before .before .constant .ensures) (c .before .before .constant2 .ensures) (c .before .constant3 .ensures) (c .constant4 .ensures)
 
 pub pair-at-spec : {M : Type 1} → statement M
-pair-at-spec = tie.close (tie.spec (λ c κs. search needs) (λ c. c .pair-of .ensures) returns-2 (λ c. search needs) (λ c. search needs) (λ c κs. tt) (λ c. search needs) (λ c. search needs) (λ c κs. tt) (λ c. search needs) (λ c. search needs) (λ c κs. tt) (λ c. search needs) (λ c. search needs) (λ c κs. tt) returns-3)
+pair-at-spec =
+    tie.close
+    (tie.spec (λ c κs. search needs) (λ c. c .pair-of .ensures) returns-2 (λ c. search needs) (λ c. search needs) (λ c κs. tt) (λ c. search needs)
+    (λ c. search needs) (λ c κs. tt) (λ c. search needs) (λ c. search needs) (λ c κs. tt) (λ c. search needs) (λ c. search needs) (λ c κs. tt)
+    returns-3)

@@ -35,7 +35,12 @@ delta-b2-at-requires c κs b =
     let n = start .args .n in
     let h : l .k < n * n = omega arith in
     let a = start .args .c in
-    mirror missing (worked n (start .args .t) (a .«rep_ij») (a .«eps_k_ij») (start .args .l .q) (start .args .l .rm)) n (l .k) (l .b2) h b (l .inv .1 .1) ∙ rw (start .pre .1 (l .k) h b, start .pre .2 (l .k) h b, start .pre .3 (l .k) h b, start .pre .4 (l .k) h b)
+    mirror missing (worked n (start .args .t) (a .«rep_ij») (a .«eps_k_ij») (start .args .l .q) (start .args .l .rm)) n (l .k) (l .b2) h b (l .inv .1 .1) ∙ rw (
+      start .pre .1 (l .k) h b,
+      start .pre .2 (l .k) h b,
+      start .pre .3 (l .k) h b,
+      start .pre .4 (l .k) h b,
+    )
 
 loop-again : tie.Need-loop-again Inv-loop μ-loop
 loop-again c =
@@ -51,4 +56,16 @@ returns : tie.Need-returns Inv-loop μ-loop
 returns c = λ k h. c .before .loop .inv .1 .1 k (omega arith)
 
 pub delta-b2-ij-spec : {M : Type 1} → statement M
-delta-b2-ij-spec = tie.close (tie.spec Inv-loop μ-loop loop-holds (λ c. square-fits (c .before .before .before .before .before .args .n) (c .before .before .before .before .before .pre .0)) (λ c. inside c .some) (λ c. inside c .some) (λ c. inside c .pair .wide) (λ c. inside c .pair .below) (λ c. inside (c .before) .pair .wide) (λ c. inside (c .before) .pair .below) (λ c. inside (c .before .before) .pair .wide) (λ c. inside (c .before .before) .pair .below) (λ c. inside (c .before .before .before) .pair .wide) (λ c. inside (c .before .before .before) .pair .below) (λ c. inside (c .before .before .before .before) .mirror-row) (λ c. inside (c .before .before .before .before) .mirror-place) (λ c. inside (c .before .before .before .before) .mirror .wide) (λ c. inside (c .before .before .before .before) .mirror .below) delta-b2-at-requires (λ c. inside (c .before .before .before .before .before .before) .pair .wide) (λ c. inside (c .before .before .before .before .before .before) .pair .below) (λ c. inside (c .before .before .before .before .before .before) .pair .next) (λ c. inside (c .before .before .before .before .before .before) .less) loop-again returns)
+delta-b2-ij-spec =
+    tie.close
+    (tie.spec Inv-loop μ-loop loop-holds
+    (λ c. square-fits (c .before .before .before .before .before .args .n) (c .before .before .before .before .before .pre .0)) (λ c. inside c .some)
+    (λ c. inside c .some) (λ c. inside c .pair .wide) (λ c. inside c .pair .below) (λ c. inside (c .before) .pair .wide)
+    (λ c. inside (c .before) .pair .below) (λ c. inside (c .before .before) .pair .wide) (λ c. inside (c .before .before) .pair .below)
+    (λ c. inside (c .before .before .before) .pair .wide) (λ c. inside (c .before .before .before) .pair .below)
+    (λ c. inside (c .before .before .before .before) .mirror-row) (λ c. inside (c .before .before .before .before) .mirror-place)
+    (λ c. inside (c .before .before .before .before) .mirror .wide) (λ c. inside (c .before .before .before .before) .mirror .below)
+    delta-b2-at-requires (λ c. inside (c .before .before .before .before .before .before) .pair .wide)
+    (λ c. inside (c .before .before .before .before .before .before) .pair .below)
+    (λ c. inside (c .before .before .before .before .before .before) .pair .next)
+    (λ c. inside (c .before .before .before .before .before .before) .less) loop-again returns)

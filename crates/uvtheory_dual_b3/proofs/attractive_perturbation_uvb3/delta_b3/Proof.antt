@@ -35,4 +35,8 @@ returns c =
     )
 
 pub delta-b3-spec : {M : Type 1} → statement M
-delta-b3-spec = tie.close (tie.spec (λ c κs. tt) (λ c κs. search needs) (λ c κs. tt) (λ c κs. search needs) (λ c κs. tt) (λ c κs. tt) (λ c κs. search needs) (λ c κs. tt) (λ c κs. tt) (λ c κs. search needs) (λ c κs. tt) (λ c κs. tt) (λ c κs. tt) (λ c κs. tt) (λ c κs. tt) (λ c κs. tt) (λ c κs. tt) (λ c κs. tt) (λ c κs. tt) returns)
+delta-b3-spec =
+    tie.close
+    (tie.spec (λ c κs. tt) (λ c κs. search needs) (λ c κs. tt) (λ c κs. search needs) (λ c κs. tt) (λ c κs. tt) (λ c κs. search needs) (λ c κs. tt)
+    (λ c κs. tt) (λ c κs. search needs) (λ c κs. tt) (λ c κs. tt) (λ c κs. tt) (λ c κs. tt) (λ c κs. tt) (λ c κs. tt) (λ c κs. tt) (λ c κs. tt)
+    (λ c κs. tt) returns)

@@ -35,4 +35,7 @@ returns : tie.Need-returns Inv-loop μ-loop
 returns c = let e : c .before .loop .m ≡ 14 = omega arith in rw e at (c .before .loop .inv .1)
 
 pub sum-beta-spec : {M : Type 1} → statement M
-sum-beta-spec = tie.close (tie.spec Inv-loop μ-loop loop-holds (λ c κs. tt) (λ c. search needs) (λ c. search needs) (λ c κs. tt) (λ c. search needs) (λ c. search needs) (λ c κs. tt) (λ c κs. tt) (λ c κs. tt) (λ c κs. tt) (λ c. search needs) (λ c. search needs) loop-again returns)
+sum-beta-spec =
+    tie.close
+    (tie.spec Inv-loop μ-loop loop-holds (λ c κs. tt) (λ c. search needs) (λ c. search needs) (λ c κs. tt) (λ c. search needs) (λ c. search needs)
+    (λ c κs. tt) (λ c κs. tt) (λ c κs. tt) (λ c κs. tt) (λ c. search needs) (λ c. search needs) loop-again returns)

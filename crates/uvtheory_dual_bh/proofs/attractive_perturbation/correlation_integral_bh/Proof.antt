@@ -31,4 +31,7 @@ returns c =
     )
 
 pub correlation-integral-bh-spec : {M : Type 1} → statement M
-correlation-integral-bh-spec = tie.close (tie.spec (λ c κs. tt) (λ c κs. tt) (λ c κs. tt) (λ c. search needs) (λ c κs. tt) (λ c κs. tt) (λ c κs. tt) (λ c κs. tt) (λ c. search needs) (λ c κs. tt) (λ c κs. tt) (λ c κs. tt) (λ c κs. tt) (λ c κs. tt) (λ c κs. tt) (λ c κs. tt) (λ c κs. tt) returns)
+correlation-integral-bh-spec =
+    tie.close
+    (tie.spec (λ c κs. tt) (λ c κs. tt) (λ c κs. tt) (λ c. search needs) (λ c κs. tt) (λ c κs. tt) (λ c κs. tt) (λ c κs. tt) (λ c. search needs)
+    (λ c κs. tt) (λ c κs. tt) (λ c κs. tt) (λ c κs. tt) (λ c κs. tt) (λ c κs. tt) (λ c κs. tt) (λ c κs. tt) returns)

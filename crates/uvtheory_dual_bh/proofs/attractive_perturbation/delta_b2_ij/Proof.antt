@@ -52,4 +52,13 @@ returns : tie.Need-returns Inv-loop μ-loop
 returns c = λ k h. c .before .loop .inv .1 .1 k (omega arith)
 
 pub delta-b2-ij-spec : {M : Type 1} → statement M
-delta-b2-ij-spec = tie.close (tie.spec Inv-loop μ-loop loop-holds (λ c. square-fits (c .before .before .before .before .args .n) (c .before .before .before .before .pre .0)) (λ c. inside c .some) (λ c. inside c .some) (λ c. inside c .pair .wide) (λ c. inside c .pair .below) (λ c. inside (c .before) .pair .wide) (λ c. inside (c .before) .pair .below) (λ c. inside (c .before .before) .pair .wide) (λ c. inside (c .before .before) .pair .below) (λ c. inside (c .before .before .before) .mirror-row) (λ c. inside (c .before .before .before) .mirror-place) (λ c. inside (c .before .before .before) .mirror .wide) (λ c. inside (c .before .before .before) .mirror .below) delta-b2-at-requires (λ c. inside (c .before .before .before .before .before) .pair .wide) (λ c. inside (c .before .before .before .before .before) .pair .below) (λ c. inside (c .before .before .before .before .before) .pair .next) (λ c. inside (c .before .before .before .before .before) .less) loop-again returns)
+delta-b2-ij-spec =
+    tie.close
+    (tie.spec Inv-loop μ-loop loop-holds (λ c. square-fits (c .before .before .before .before .args .n) (c .before .before .before .before .pre .0))
+    (λ c. inside c .some) (λ c. inside c .some) (λ c. inside c .pair .wide) (λ c. inside c .pair .below) (λ c. inside (c .before) .pair .wide)
+    (λ c. inside (c .before) .pair .below) (λ c. inside (c .before .before) .pair .wide) (λ c. inside (c .before .before) .pair .below)
+    (λ c. inside (c .before .before .before) .mirror-row) (λ c. inside (c .before .before .before) .mirror-place)
+    (λ c. inside (c .before .before .before) .mirror .wide) (λ c. inside (c .before .before .before) .mirror .below) delta-b2-at-requires
+    (λ c. inside (c .before .before .before .before .before) .pair .wide) (λ c. inside (c .before .before .before .before .before) .pair .below)
+    (λ c. inside (c .before .before .before .before .before) .pair .next) (λ c. inside (c .before .before .before .before .before) .less) loop-again
+    returns)

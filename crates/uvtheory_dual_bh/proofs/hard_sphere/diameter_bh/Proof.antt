@@ -44,4 +44,9 @@ unfolding F.diameter-bh
 returns c = λ i h. c .before .loop .inv .2 i (omega arith)
 
 pub diameter-bh-spec : {M : Type 1} → statement M
-diameter-bh-spec = tie.close (tie.spec Inv-loop μ-loop (λ c κs. tt) loop-holds (λ c. inside c .place .fits) (λ c. inside c .place .below) (λ c. inside c .place .fits) (λ c. inside c .place .below) (λ c. inside c .place .fits) (λ c. inside c .place .below) (λ c κs. c .before .before .inv-a76 .ensures) (λ c. inside (c .before) .place .wide) (λ c. inside (c .before) .place .below) (λ c. inside (c .before) .place .next) (λ c. inside (c .before) .less) loop-again returns)
+diameter-bh-spec =
+    tie.close
+    (tie.spec Inv-loop μ-loop (λ c κs. tt) loop-holds (λ c. inside c .place .fits) (λ c. inside c .place .below) (λ c. inside c .place .fits)
+    (λ c. inside c .place .below) (λ c. inside c .place .fits) (λ c. inside c .place .below) (λ c κs. c .before .before .inv-a76 .ensures)
+    (λ c. inside (c .before) .place .wide) (λ c. inside (c .before) .place .below) (λ c. inside (c .before) .place .next)
+    (λ c. inside (c .before) .less) loop-again returns)

@@ -13,7 +13,9 @@ use Rattle.uvtheory_dual_wca.proofs.reference_perturbation.pair_sum.Sta
 use Rattle.uvtheory_dual_wca.proofs.reference_perturbation.pair_sum.Tie as tie
 
 abbrev Inv-loop : tie.InvT-loop
-Inv-loop ta tb n x rm d length eta q sigma-ij rep-ij sum₀ k₀ sum k = (k ≤ n * n) × (sum ≡ guardedSlopes .sum k (λ l. F.term-ij guardedSlopes (table ta) (table tb) (row x) (row rm) (row d) (row length) (matrix n q) (matrix n sigma-ij) (matrix n rep-ij) eta (l / n) (l % n)))
+Inv-loop ta tb n x rm d length eta q sigma-ij rep-ij sum₀ k₀ sum k =
+    (k ≤ n * n)
+    × (sum ≡ guardedSlopes .sum k (λ l. F.term-ij guardedSlopes (table ta) (table tb) (row x) (row rm) (row d) (row length) (matrix n q) (matrix n sigma-ij) (matrix n rep-ij) eta (l / n) (l % n)))
 
 abbrev μ-loop : tie.MeasureT-loop
 μ-loop ta tb n x rm d length eta q sigma-ij rep-ij sum₀ k₀ sum k = n * n - k
@@ -38,4 +40,12 @@ returns : tie.Need-returns Inv-loop μ-loop
 returns c = let e : c .before .loop .k ≡ c .before .before .args .n * c .before .before .args .n = omega arith in rw e at (c .before .loop .inv .1)
 
 pub pair-sum-spec : {M : Type 1} → statement M
-pair-sum-spec = tie.close (tie.spec Inv-loop μ-loop loop-holds (λ c. square-fits (c .before .args .n) (c .before .pre)) (λ c. inside c .some) (λ c κs. inside (c) .row .below) (λ c. inside (c .before) .some) (λ c κs. inside (c .before) .column .below) (λ c. inside (c .before .before) .pair .wide) (λ c. inside (c .before .before) .pair .below) (λ c. inside (c .before .before .before) .pair .wide) (λ c. inside (c .before .before .before) .pair .below) (λ c. inside (c .before .before .before .before) .pair .wide) (λ c. inside (c .before .before .before .before) .pair .below) (λ c κs. tt) (λ c κs. tt) (λ c. inside (c .before .before .before .before .before .before .before) .pair .next) (λ c. inside (c .before .before .before .before .before .before .before) .less) loop-again returns)
+pair-sum-spec =
+    tie.close
+    (tie.spec Inv-loop μ-loop loop-holds (λ c. square-fits (c .before .args .n) (c .before .pre)) (λ c. inside c .some)
+    (λ c κs. inside (c) .row .below) (λ c. inside (c .before) .some) (λ c κs. inside (c .before) .column .below)
+    (λ c. inside (c .before .before) .pair .wide) (λ c. inside (c .before .before) .pair .below) (λ c. inside (c .before .before .before) .pair .wide)
+    (λ c. inside (c .before .before .before) .pair .below) (λ c. inside (c .before .before .before .before) .pair .wide)
+    (λ c. inside (c .before .before .before .before) .pair .below) (λ c κs. tt) (λ c κs. tt)
+    (λ c. inside (c .before .before .before .before .before .before .before) .pair .next)
+    (λ c. inside (c .before .before .before .before .before .before .before) .less) loop-again returns)

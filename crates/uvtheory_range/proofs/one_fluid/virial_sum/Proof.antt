@@ -27,7 +27,16 @@ loop-holds c = (omega arith, sym zero-constant)
 loop-again : tie.Need-loop-again Inv-loop μ-loop
 loop-again c = (
   omega arith,
-  rw (c .add .ensures, c .before .mul3 .ensures, c .before .before .before .mul2 .ensures, c .before .before .before .before .powi .ensures, c .before .before .before .before .before .before .mul .ensures, c .before .before .before .before .before .before .before .before .before .before .loop .inv .1, sum-step ranges (λ n f. refl), at-pair),
+  rw (
+    c .add .ensures,
+    c .before .mul3 .ensures,
+    c .before .before .before .mul2 .ensures,
+    c .before .before .before .before .powi .ensures,
+    c .before .before .before .before .before .before .mul .ensures,
+    c .before .before .before .before .before .before .before .before .before .before .loop .inv .1,
+    sum-step ranges (λ n f. refl),
+    at-pair,
+  ),
 )
 
 returns : tie.Need-returns Inv-loop μ-loop
@@ -35,4 +44,12 @@ unfolding F.weighted-pairs
 returns c = let e : c .before .loop .ij ≡ c .before .before .args .n * c .before .before .args .n = omega arith in rw e at (c .before .loop .inv .1)
 
 pub virial-sum-spec : {M : Type 1} → statement M
-virial-sum-spec = tie.close (tie.spec Inv-loop μ-loop loop-holds (λ c. square-fits (c .before .args .n) (c .before .pre)) (λ c. inside c .some) (λ c. inside c .row .wide) (λ c. inside c .row .below) (λ c. inside (c .before) .some) (λ c. inside (c .before) .column .wide) (λ c. inside (c .before) .column .below) (λ c κs. tt) (λ c. inside (c .before .before .before) .pair .wide) (λ c. inside (c .before .before .before) .pair .below) (λ c κs. tt) (λ c κs. tt) (λ c. inside (c .before .before .before .before .before .before) .pair .wide) (λ c. inside (c .before .before .before .before .before .before) .pair .below) (λ c κs. tt) (λ c κs. tt) (λ c. inside (c .before .before .before .before .before .before .before .before .before) .pair .next) (λ c. inside (c .before .before .before .before .before .before .before .before .before) .less) loop-again returns)
+virial-sum-spec =
+    tie.close
+    (tie.spec Inv-loop μ-loop loop-holds (λ c. square-fits (c .before .args .n) (c .before .pre)) (λ c. inside c .some) (λ c. inside c .row .wide)
+    (λ c. inside c .row .below) (λ c. inside (c .before) .some) (λ c. inside (c .before) .column .wide) (λ c. inside (c .before) .column .below)
+    (λ c κs. tt) (λ c. inside (c .before .before .before) .pair .wide) (λ c. inside (c .before .before .before) .pair .below) (λ c κs. tt)
+    (λ c κs. tt) (λ c. inside (c .before .before .before .before .before .before) .pair .wide)
+    (λ c. inside (c .before .before .before .before .before .before) .pair .below) (λ c κs. tt) (λ c κs. tt)
+    (λ c. inside (c .before .before .before .before .before .before .before .before .before) .pair .next)
+    (λ c. inside (c .before .before .before .before .before .before .before .before .before) .less) loop-again returns)

@@ -71,4 +71,20 @@ returns c =
     }
 
 pub combine-spec : {M : Type 1} → statement M
-combine-spec = tie.close (tie.spec Inv-loop μ-loop loop-holds (λ c. square-fits (c .before .args .m .n) (c .before .pre)) (λ c. inside c .some) (λ c. inside c .some) (λ c. inside c .mirror-row) (λ c. inside c .mirror-place) (λ c. inside c .mirror .wide) (λ c. inside c .mirror .below) (λ c. inside (c .before) .mirror .wide) (λ c. inside (c .before) .mirror .below) (λ c. inside (c .before .before) .mirror .wide) (λ c. inside (c .before .before) .mirror .below) (λ c. inside (c .before .before .before) .mirror .wide) (λ c. inside (c .before .before .before) .mirror .below) pair-at-requires (λ c. inside (c .before .before .before .before .before .before .before .before .before) .pair .wide) (λ c. inside (c .before .before .before .before .before .before .before .before .before) .pair .below) (λ c. inside (c .before .before .before .before .before .before .before .before .before) .pair .wide) (λ c. inside (c .before .before .before .before .before .before .before .before .before) .pair .below) (λ c. inside (c .before .before .before .before .before .before .before .before .before) .pair .wide) (λ c. inside (c .before .before .before .before .before .before .before .before .before) .pair .below) (λ c. inside (c .before .before .before .before .before .before .before .before .before) .pair .wide) (λ c. inside (c .before .before .before .before .before .before .before .before .before) .pair .below) (λ c. inside (c .before .before .before .before .before .before .before .before .before) .pair .next) (λ c. inside (c .before .before .before .before .before .before .before .before .before) .less) loop-again returns)
+combine-spec =
+    tie.close
+    (tie.spec Inv-loop μ-loop loop-holds (λ c. square-fits (c .before .args .m .n) (c .before .pre)) (λ c. inside c .some) (λ c. inside c .some)
+    (λ c. inside c .mirror-row) (λ c. inside c .mirror-place) (λ c. inside c .mirror .wide) (λ c. inside c .mirror .below)
+    (λ c. inside (c .before) .mirror .wide) (λ c. inside (c .before) .mirror .below) (λ c. inside (c .before .before) .mirror .wide)
+    (λ c. inside (c .before .before) .mirror .below) (λ c. inside (c .before .before .before) .mirror .wide)
+    (λ c. inside (c .before .before .before) .mirror .below) pair-at-requires
+    (λ c. inside (c .before .before .before .before .before .before .before .before .before) .pair .wide)
+    (λ c. inside (c .before .before .before .before .before .before .before .before .before) .pair .below)
+    (λ c. inside (c .before .before .before .before .before .before .before .before .before) .pair .wide)
+    (λ c. inside (c .before .before .before .before .before .before .before .before .before) .pair .below)
+    (λ c. inside (c .before .before .before .before .before .before .before .before .before) .pair .wide)
+    (λ c. inside (c .before .before .before .before .before .before .before .before .before) .pair .below)
+    (λ c. inside (c .before .before .before .before .before .before .before .before .before) .pair .wide)
+    (λ c. inside (c .before .before .before .before .before .before .before .before .before) .pair .below)
+    (λ c. inside (c .before .before .before .before .before .before .before .before .before) .pair .next)
+    (λ c. inside (c .before .before .before .before .before .before .before .before .before) .less) loop-again returns)

@@ -21,4 +21,7 @@ returns c8 =
     eight missing (constants xs) past (c1 .constant .ensures) (c2 .constant2 .ensures) (c3 .constant3 .ensures) (c4 .constant4 .ensures) (c5 .constant5 .ensures) (c6 .constant6 .ensures) (c7 .constant7 .ensures) (c8 .constant8 .ensures)
 
 pub constants-spec : {M : Type 1} → statement M
-constants-spec = tie.close (tie.spec (λ c. search needs) (λ c κs. tt) (λ c. search needs) (λ c κs. tt) (λ c. search needs) (λ c κs. tt) (λ c. search needs) (λ c κs. tt) (λ c. search needs) (λ c κs. tt) (λ c. search needs) (λ c κs. tt) (λ c. search needs) (λ c κs. tt) (λ c. search needs) (λ c κs. tt) returns)
+constants-spec =
+    tie.close
+    (tie.spec (λ c. search needs) (λ c κs. tt) (λ c. search needs) (λ c κs. tt) (λ c. search needs) (λ c κs. tt) (λ c. search needs) (λ c κs. tt)
+    (λ c. search needs) (λ c κs. tt) (λ c. search needs) (λ c κs. tt) (λ c. search needs) (λ c κs. tt) (λ c. search needs) (λ c κs. tt) returns)

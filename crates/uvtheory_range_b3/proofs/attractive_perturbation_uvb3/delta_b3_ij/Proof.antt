@@ -39,11 +39,28 @@ loop-again c =
     let n = start .args .n in
     let a = start .args .c in (
       omega arith,
-      one-more missing n (l .k) (l .b3) (worked n (start .args .t) (start .args .sigma .now) (start .args .t5) (a .«rep_ij») (a .«eps_k_ij») (start .args .l .q) (start .args .l .rm)) _ (omega (arith, square-le n (start .pre))) (l .inv .1) (c .delta-b3-at .ensures ∙ rw (at-pair n (l .k))),
+      one-more missing n (l .k) (l .b3) (worked n (start .args .t) (start .args .sigma .now) (start .args .t5) (a .«rep_ij») (a .«eps_k_ij») (start .args .l .q) (start .args .l .rm))
+          _ (omega (arith, square-le n (start .pre))) (l .inv .1) (c .delta-b3-at .ensures ∙ rw (at-pair n (l .k))),
     )
 
 returns : tie.Need-returns Inv-loop μ-loop
 returns c = λ k h. c .before .loop .inv .1 .1 k (omega arith)
 
 pub delta-b3-ij-spec : {M : Type 1} → statement M
-delta-b3-ij-spec = tie.close (tie.spec Inv-loop μ-loop loop-holds (λ c. square-fits (c .before .before .before .before .before .args .n) (c .before .before .before .before .before .pre)) (λ c. inside c .some) (λ c. inside c .some) (λ c. inside c .pair .wide) (λ c. inside c .pair .below) (λ c. inside (c .before) .pair .wide) (λ c. inside (c .before) .pair .below) (λ c. inside (c .before .before) .pair .wide) (λ c. inside (c .before .before) .pair .below) (λ c. inside (c .before .before .before) .pair .wide) (λ c. inside (c .before .before .before) .pair .below) (λ c. inside (c .before .before .before .before) .row .wide) (λ c. inside (c .before .before .before .before) .row .below) (λ c. inside (c .before .before .before .before .before) .row .fits) (λ c. inside (c .before .before .before .before .before) .row .below) (λ c. inside (c .before .before .before .before .before .before) .column .wide) (λ c. inside (c .before .before .before .before .before .before) .column .below) (λ c. inside (c .before .before .before .before .before .before .before) .column .fits) (λ c. inside (c .before .before .before .before .before .before .before) .column .below) (λ c κs. tt) (λ c. inside (c .before .before .before .before .before .before .before .before .before) .pair .wide) (λ c. inside (c .before .before .before .before .before .before .before .before .before) .pair .below) (λ c. inside (c .before .before .before .before .before .before .before .before .before) .pair .next) (λ c. inside (c .before .before .before .before .before .before .before .before .before) .less) loop-again returns)
+delta-b3-ij-spec =
+    tie.close
+    (tie.spec Inv-loop μ-loop loop-holds
+    (λ c. square-fits (c .before .before .before .before .before .args .n) (c .before .before .before .before .before .pre)) (λ c. inside c .some)
+    (λ c. inside c .some) (λ c. inside c .pair .wide) (λ c. inside c .pair .below) (λ c. inside (c .before) .pair .wide)
+    (λ c. inside (c .before) .pair .below) (λ c. inside (c .before .before) .pair .wide) (λ c. inside (c .before .before) .pair .below)
+    (λ c. inside (c .before .before .before) .pair .wide) (λ c. inside (c .before .before .before) .pair .below)
+    (λ c. inside (c .before .before .before .before) .row .wide) (λ c. inside (c .before .before .before .before) .row .below)
+    (λ c. inside (c .before .before .before .before .before) .row .fits) (λ c. inside (c .before .before .before .before .before) .row .below)
+    (λ c. inside (c .before .before .before .before .before .before) .column .wide)
+    (λ c. inside (c .before .before .before .before .before .before) .column .below)
+    (λ c. inside (c .before .before .before .before .before .before .before) .column .fits)
+    (λ c. inside (c .before .before .before .before .before .before .before) .column .below) (λ c κs. tt)
+    (λ c. inside (c .before .before .before .before .before .before .before .before .before) .pair .wide)
+    (λ c. inside (c .before .before .before .before .before .before .before .before .before) .pair .below)
+    (λ c. inside (c .before .before .before .before .before .before .before .before .before) .pair .next)
+    (λ c. inside (c .before .before .before .before .before .before .before .before .before) .less) loop-again returns)

@@ -63,4 +63,11 @@ returns c =
     )
 
 pub helmholtz-energy-density-spec : {M : Type 1} → statement M
-helmholtz-energy-density-spec = tie.close (tie.spec (λ c κs. tt) (λ c κs. c .before .before .before .before .before .pre .0 .0) (λ c κs. let start = c .before .before .before .before .before .before in let h = start .pre .0 .1 in let l = start .pre .0 .2 in (start .pre .0 .0, rep-symmetric h, epsilon-symmetric h, q-symmetric l, rm-symmetric l)) (λ c κs. c .before .before .before .before .before .before .before .pre .0 .0) (λ c κs. c .before .before .before .before .before .before .before .before .before .pre .0 .0) (λ c κs. c .before .before .before .before .before .before .before .before .before .before .pre .0 .0) (λ c κs. c .before .before .before .before .before .before .before .before .before .before .before .pre .0 .0) (λ c κs. tt) (λ c κs. tt) returns)
+helmholtz-energy-density-spec =
+    tie.close
+    (tie.spec (λ c κs. tt) (λ c κs. c .before .before .before .before .before .pre .0 .0)
+    (λ c κs. let start = c .before .before .before .before .before .before in let h = start .pre .0 .1 in let l = start .pre .0 .2 in (start .pre .0 .0, rep-symmetric h, epsilon-symmetric h, q-symmetric l, rm-symmetric l))
+    (λ c κs. c .before .before .before .before .before .before .before .pre .0 .0)
+    (λ c κs. c .before .before .before .before .before .before .before .before .before .pre .0 .0)
+    (λ c κs. c .before .before .before .before .before .before .before .before .before .before .pre .0 .0)
+    (λ c κs. c .before .before .before .before .before .before .before .before .before .before .before .pre .0 .0) (λ c κs. tt) (λ c κs. tt) returns)

@@ -27,11 +27,26 @@ loop-holds c = (omega arith, sym zero-constant)
 loop-again : tie.Need-loop-again Inv-loop μ-loop
 loop-again c = (
   omega arith,
-  rw (c .add .ensures, c .before .term-of .ensures, c .before .before .before .before .component-of2 .ensures, c .before .before .before .before .before .component-of .ensures, c .before .before .before .before .before .before .before .loop .inv .1, sum-step ranges (λ n f. refl), at-pair),
+  rw (
+    c .add .ensures,
+    c .before .term-of .ensures,
+    c .before .before .before .before .component-of2 .ensures,
+    c .before .before .before .before .before .component-of .ensures,
+    c .before .before .before .before .before .before .before .loop .inv .1,
+    sum-step ranges (λ n f. refl),
+    at-pair,
+  ),
 )
 
 returns : tie.Need-returns Inv-loop μ-loop
 returns c = let e : c .before .loop .k ≡ c .before .before .args .n * c .before .before .args .n = omega arith in rw e at (c .before .loop .inv .1)
 
 pub pair-sum-spec : {M : Type 1} → statement M
-pair-sum-spec = tie.close (tie.spec Inv-loop μ-loop loop-holds (λ c. square-fits (c .before .args .n) (c .before .pre)) (λ c. inside c .some) (λ c κs. inside (c) .row .below) (λ c. inside (c .before) .some) (λ c κs. inside (c .before) .column .below) (λ c. inside (c .before .before) .pair .wide) (λ c. inside (c .before .before) .pair .below) (λ c. inside (c .before .before .before) .pair .wide) (λ c. inside (c .before .before .before) .pair .below) (λ c κs. tt) (λ c κs. tt) (λ c. inside (c .before .before .before .before .before .before) .pair .next) (λ c. inside (c .before .before .before .before .before .before) .less) loop-again returns)
+pair-sum-spec =
+    tie.close
+    (tie.spec Inv-loop μ-loop loop-holds (λ c. square-fits (c .before .args .n) (c .before .pre)) (λ c. inside c .some)
+    (λ c κs. inside (c) .row .below) (λ c. inside (c .before) .some) (λ c κs. inside (c .before) .column .below)
+    (λ c. inside (c .before .before) .pair .wide) (λ c. inside (c .before .before) .pair .below) (λ c. inside (c .before .before .before) .pair .wide)
+    (λ c. inside (c .before .before .before) .pair .below) (λ c κs. tt) (λ c κs. tt)
+    (λ c. inside (c .before .before .before .before .before .before) .pair .next)
+    (λ c. inside (c .before .before .before .before .before .before) .less) loop-again returns)

@@ -27,4 +27,7 @@ returns c =
     )
 
 pub coefficient-q-spec : {M : Type 1} → statement M
-coefficient-q-spec = tie.close (tie.spec (λ c κs. tt) (λ c κs. tt) (λ c. search needs) (λ c κs. tt) (λ c κs. tt) (λ c κs. tt) (λ c. search needs) (λ c κs. tt) (λ c κs. tt) (λ c κs. tt) (λ c κs. tt) (λ c. search needs) (λ c κs. tt) (λ c κs. tt) (λ c κs. tt) (λ c. search needs) (λ c κs. tt) (λ c κs. tt) returns)
+coefficient-q-spec =
+    tie.close
+    (tie.spec (λ c κs. tt) (λ c κs. tt) (λ c. search needs) (λ c κs. tt) (λ c κs. tt) (λ c κs. tt) (λ c. search needs) (λ c κs. tt) (λ c κs. tt)
+    (λ c κs. tt) (λ c κs. tt) (λ c. search needs) (λ c κs. tt) (λ c κs. tt) (λ c κs. tt) (λ c. search needs) (λ c κs. tt) (λ c κs. tt) returns)

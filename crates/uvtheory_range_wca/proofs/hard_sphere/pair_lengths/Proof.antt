@@ -60,4 +60,17 @@ returns : tie.Need-returns Inv-loop μ-loop
 returns c = ((λ k h. c .before .loop .inv .1 .1 k (omega arith)), (λ k h. c .before .loop .inv .2 .1 k (omega arith)))
 
 pub pair-lengths-spec : {M : Type 1} → statement M
-pair-lengths-spec = tie.close (tie.spec Inv-loop μ-loop loop-holds (λ c. square-fits (c .before .before .before .before .args .n) (c .before .before .before .before .pre .0)) (λ c. inside c .some) (λ c. inside c .some) (λ c. inside c .mirror-row) (λ c. inside c .mirror-place) (λ c. inside c .mirror .wide) (λ c. inside c .mirror .below) (λ c. inside (c .before) .mirror .wide) (λ c. inside (c .before) .mirror .below) (λ c. inside (c .before .before) .pair .wide) (λ c. inside (c .before .before) .pair .below) (λ c. inside (c .before .before .before) .pair .wide) (λ c. inside (c .before .before .before) .pair .below) (λ c. inside (c .before .before .before .before) .pair .wide) (λ c. inside (c .before .before .before .before) .pair .below) pair-lengths-at-requires (λ c. inside (c .before .before .before .before .before .before .before .before) .pair .wide) (λ c. inside (c .before .before .before .before .before .before .before .before) .pair .below) (λ c. inside (c .before .before .before .before .before .before .before .before) .pair .wide) (λ c. inside (c .before .before .before .before .before .before .before .before) .pair .below) (λ c. inside (c .before .before .before .before .before .before .before .before) .pair .next) (λ c. inside (c .before .before .before .before .before .before .before .before) .less) loop-again returns)
+pair-lengths-spec =
+    tie.close
+    (tie.spec Inv-loop μ-loop loop-holds (λ c. square-fits (c .before .before .before .before .args .n) (c .before .before .before .before .pre .0))
+    (λ c. inside c .some) (λ c. inside c .some) (λ c. inside c .mirror-row) (λ c. inside c .mirror-place) (λ c. inside c .mirror .wide)
+    (λ c. inside c .mirror .below) (λ c. inside (c .before) .mirror .wide) (λ c. inside (c .before) .mirror .below)
+    (λ c. inside (c .before .before) .pair .wide) (λ c. inside (c .before .before) .pair .below) (λ c. inside (c .before .before .before) .pair .wide)
+    (λ c. inside (c .before .before .before) .pair .below) (λ c. inside (c .before .before .before .before) .pair .wide)
+    (λ c. inside (c .before .before .before .before) .pair .below) pair-lengths-at-requires
+    (λ c. inside (c .before .before .before .before .before .before .before .before) .pair .wide)
+    (λ c. inside (c .before .before .before .before .before .before .before .before) .pair .below)
+    (λ c. inside (c .before .before .before .before .before .before .before .before) .pair .wide)
+    (λ c. inside (c .before .before .before .before .before .before .before .before) .pair .below)
+    (λ c. inside (c .before .before .before .before .before .before .before .before) .pair .next)
+    (λ c. inside (c .before .before .before .before .before .before .before .before) .less) loop-again returns)

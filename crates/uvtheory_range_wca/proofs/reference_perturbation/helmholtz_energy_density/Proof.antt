@@ -57,4 +57,7 @@ returns c =
     c .energy .ensures ∙ rw (sum .pair-sum .ensures, packing .packing-fraction .ensures, packing-fraction-of ranges (λ n f. refl) missing n (row (s .«partial_density»)) (r .d) d (rows .d-are), pairs, start .pre .1)
 
 pub helmholtz-energy-density-spec : {M : Type 1} → statement M
-helmholtz-energy-density-spec = tie.close (tie.spec (λ c κs. c .before .before .before .before .before .before .before .before .pre .0 .0) (λ c κs. c .before .before .before .before .before .before .before .before .before .pre .0 .0) (λ c κs. tt) returns)
+helmholtz-energy-density-spec =
+    tie.close
+    (tie.spec (λ c κs. c .before .before .before .before .before .before .before .before .pre .0 .0)
+    (λ c κs. c .before .before .before .before .before .before .before .before .before .pre .0 .0) (λ c κs. tt) returns)

@@ -6,7 +6,20 @@ use Rattle.uvtheory_wca.proofs.attractive_perturbation.beta_eff.Tie as 
 
 returns : tie.Need-returns
 unfolding F.beta-eff
-returns c = simp (c .div4 .ensures, c .before .powf3 .ensures, c .before .before .powf2 .ensures, c .before .before .before .powf .ensures, c .before .before .before .before .div3 .ensures, c .before .before .before .before .before .before .before .div2 .ensures, c .before .before .before .before .before .before .before .before .before .before .div .ensures) refl
+returns c =
+    simp (
+      c .div4 .ensures,
+      c .before .powf3 .ensures,
+      c .before .before .powf2 .ensures,
+      c .before .before .before .powf .ensures,
+      c .before .before .before .before .div3 .ensures,
+      c .before .before .before .before .before .before .before .div2 .ensures,
+      c .before .before .before .before .before .before .before .before .before .before .div .ensures,
+    ) refl
 
 pub beta-eff-spec : {M : Type 1} → statement M
-beta-eff-spec = tie.close (tie.spec (λ c. search needs) (λ c. search needs) (λ c. search needs) (λ c. search needs) (λ c κs. tt) (λ c. search needs) (λ c. search needs) (λ c. search needs) (λ c. search needs) (λ c κs. tt) (λ c. search needs) (λ c. search needs) (λ c. search needs) (λ c. search needs) (λ c κs. tt) (λ c κs. tt) (λ c κs. tt) (λ c κs. tt) (λ c κs. tt) returns)
+beta-eff-spec =
+    tie.close
+    (tie.spec (λ c. search needs) (λ c. search needs) (λ c. search needs) (λ c. search needs) (λ c κs. tt) (λ c. search needs) (λ c. search needs)
+    (λ c. search needs) (λ c. search needs) (λ c κs. tt) (λ c. search needs) (λ c. search needs) (λ c. search needs) (λ c. search needs) (λ c κs. tt)
+    (λ c κs. tt) (λ c κs. tt) (λ c κs. tt) (λ c κs. tt) returns)

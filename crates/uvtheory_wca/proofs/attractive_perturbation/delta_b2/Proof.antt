@@ -6,7 +6,16 @@ use Rattle.uvtheory_wca.proofs.attractive_perturbation.delta_b2.Tie as 
 
 returns : tie.Need-returns
 unfolding F.delta-b2-of powerBy
-returns c = simp (c .div3 .ensures, c .before .div2 .ensures, c .before .before .y-eff .ensures, c .before .before .before .mean-field-of2 .ensures, c .before .before .before .before .exp .ensures, c .before .before .before .before .before .div .ensures, c .before .before .before .before .before .before .mean-field-of .ensures) refl
+returns c =
+    simp (
+      c .div3 .ensures,
+      c .before .div2 .ensures,
+      c .before .before .y-eff .ensures,
+      c .before .before .before .mean-field-of2 .ensures,
+      c .before .before .before .before .exp .ensures,
+      c .before .before .before .before .before .div .ensures,
+      c .before .before .before .before .before .before .mean-field-of .ensures,
+    ) refl
 
 pub delta-b2-spec : {M : Type 1} → statement M
 delta-b2-spec = tie.close (tie.spec (λ c κs. tt) (λ c κs. tt) (λ c κs. tt) (λ c κs. tt) (λ c κs. tt) (λ c κs. tt) (λ c κs. tt) returns)

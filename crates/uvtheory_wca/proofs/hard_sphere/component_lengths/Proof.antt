@@ -62,4 +62,14 @@ unfolding F.diameter-wca F.dimensionless-length-scale
 returns c = let l = c .before .loop .inv in record { rm-are = λ i h. l .4 i (omega arith); d-are = λ i h. l .5 i (omega arith); length-are = λ i h. l .6 i (omega arith) }
 
 pub component-lengths-spec : {M : Type 1} → statement M
-component-lengths-spec = tie.close (tie.spec Inv-loop μ-loop loop-holds (λ c. inside c .place .fits) (λ c. inside c .place .below) (λ c. inside c .place .fits) (λ c. inside c .place .below) (λ c κs. tt) (λ c. inside (c .before) .place .fits) (λ c. inside (c .before) .place .below) (λ c κs. tt) (λ c. inside (c .before .before) .place .fits) (λ c. inside (c .before .before) .place .below) (λ c. inside (c .before .before) .place .fits) (λ c. inside (c .before .before) .place .below) (λ c κs. tt) (λ c. inside (c .before .before .before) .place .fits) (λ c. inside (c .before .before .before) .place .below) (λ c. inside (c .before .before .before) .place .fits) (λ c. inside (c .before .before .before) .place .below) (λ c. inside (c .before .before .before) .place .fits) (λ c. inside (c .before .before .before) .place .below) (λ c. inside (c .before .before .before) .place .fits) (λ c. inside (c .before .before .before) .place .below) (λ c. inside (c .before .before .before) .place .next) (λ c. inside (c .before .before .before) .less) loop-again returns)
+component-lengths-spec =
+    tie.close
+    (tie.spec Inv-loop μ-loop loop-holds (λ c. inside c .place .fits) (λ c. inside c .place .below) (λ c. inside c .place .fits)
+    (λ c. inside c .place .below) (λ c κs. tt) (λ c. inside (c .before) .place .fits) (λ c. inside (c .before) .place .below) (λ c κs. tt)
+    (λ c. inside (c .before .before) .place .fits) (λ c. inside (c .before .before) .place .below) (λ c. inside (c .before .before) .place .fits)
+    (λ c. inside (c .before .before) .place .below) (λ c κs. tt) (λ c. inside (c .before .before .before) .place .fits)
+    (λ c. inside (c .before .before .before) .place .below) (λ c. inside (c .before .before .before) .place .fits)
+    (λ c. inside (c .before .before .before) .place .below) (λ c. inside (c .before .before .before) .place .fits)
+    (λ c. inside (c .before .before .before) .place .below) (λ c. inside (c .before .before .before) .place .fits)
+    (λ c. inside (c .before .before .before) .place .below) (λ c. inside (c .before .before .before) .place .next)
+    (λ c. inside (c .before .before .before) .less) loop-again returns)

@@ -49,7 +49,17 @@ returns c =
       rows .length-are (k / n) i,
       rows .length-are (k % n) j,
     )) in
-    c .energy .ensures ∙ rw (c .before .pair-sum .ensures, c .before .before .before .before .before .before .before .before .before .packing-fraction .ensures, packing-fraction-of guarded (λ n f. refl) nan n (row (s .«partial_density»)) (r .d) d (rows .d-are), pairs, start .pre .1)
+    c .energy .ensures ∙ rw (
+      c .before .pair-sum .ensures,
+      c .before .before .before .before .before .before .before .before .before .packing-fraction .ensures,
+      packing-fraction-of guarded (λ n f. refl) nan n (row (s .«partial_density»)) (r .d) d (rows .d-are),
+      pairs,
+      start .pre .1,
+    )
 
 pub helmholtz-energy-density-spec : {M : Type 1} → statement M
-helmholtz-energy-density-spec = tie.close (tie.spec (λ c κs. c .before .before .before .before .before .before .before .before .before .before .pre .0 .0) (λ c κs. c .before .before .before .before .before .before .before .before .before .before .before .before .before .before .before .before .before .before .pre .0 .0) (λ c κs. tt) returns)
+helmholtz-energy-density-spec =
+    tie.close
+    (tie.spec (λ c κs. c .before .before .before .before .before .before .before .before .before .before .pre .0 .0)
+    (λ c κs. c .before .before .before .before .before .before .before .before .before .before .before .before .before .before .before .before .before .before .pre .0 .0)
+    (λ c κs. tt) returns)
