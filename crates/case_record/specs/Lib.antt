@@ -1,4 +1,4 @@
 -- What document 01 says of case records, and of bytes.
 pub mod Bytes
+pub mod Layout
 pub mod Record
-pub mod Checks

@@ -3,35 +3,23 @@ ghost use mathlib.Core.Path.{_≡_};
 ghost use Prim.Native.Nat.{ℕ, _+_, _*_, _≤_, _<_};
 ghost use mathlib.Core.List.{_++_};
 ghost use lib.ListN.{length, drop};
-ghost use Rattle.case_record.specs.Record.{Whole, caseOf, column, components, double, lengthOf, mixtureOf, pairs, row, stateOf, values};
+ghost use Rattle.case_record.specs.Layout.{headerOf};
+ghost use Rattle.case_record.specs.Record.{Whole, caseOf, column, double, mixtureOf, row, stateOf, values};
 use crate::bytes::double_at;
+use crate::layout::Header;
+use crate::layout::header_of;
+use crate::layout::layout_of;
+use crate::layout::pairs;
+use crate::layout::perturbation_of;
+use uvtheory::eos::Perturbation;
 use uvtheory::parameters::Mixture;
 use uvtheory::parameters::State;
 
 // What a record asks for: which perturbation, of which mixture, in which state.
 pub struct Case {
-    pub perturbation: u8,
+    pub perturbation: Perturbation,
     pub mixture: Mixture,
     pub state: State,
-}
-
-// How many pairs i below j there are.
-pub fn pairs(n: usize) -> usize
-    requires { ⌜ n ≤ 8 ⌝ }
-    ensures { λ r. ⌜ (r ≡ pairs n) × (r ≤ 28) ⌝ }
-{
-    if n == 0 {
-        return 0;
-    }
-    n * (n - 1) / 2
-}
-
-// The length of a record of n substances.
-pub fn length_of(n: usize) -> usize
-    requires { ⌜ n ≤ 8 ⌝ }
-    ensures { λ r. ⌜ r ≡ lengthOf n ⌝ }
-{
-    3 + 8 * (4 * n + pairs(n) + 1 + 2 * n)
 }
 
 // The k-th double after n, counted from 0.
@@ -63,17 +51,18 @@ fn row8(record: &[u8], first: usize, step: usize, n: usize) -> [f64; 8]
     out
 }
 
-// The mixture of a record of n substances.
-pub fn mixture_of(record: &[u8], n: usize) -> Mixture
-    requires { ⌜ Whole (now «record») n ⌝ }
-    ensures { λ r. ⌜ r ≡ mixtureOf (now («record» .entry)) n ⌝ }
+pub fn mixture_of(record: &[u8], h: Header) -> Mixture
+    requires { ⌜ Whole (now «record») h ⌝ }
+    ensures { λ r. ⌜ r ≡ mixtureOf (now («record» .entry)) h ⌝ }
 {
+    let n = h.n;
+    let l = layout_of(h);
     let rep = row8(record, 0, 4, n);
     let att = row8(record, 1, 4, n);
     let sigma = row8(record, 2, 4, n);
     let epsilon_k = row8(record, 3, 4, n);
     let mut k_ij = [0.0; 28];
-    read_column(record, 4 * n, 1, pairs(n), &mut k_ij);
+    read_column(record, l.k_ij, 1, pairs(n), &mut k_ij);
     Mixture {
         n,
         rep,
@@ -84,15 +73,15 @@ pub fn mixture_of(record: &[u8], n: usize) -> Mixture
     }
 }
 
-// The state of a record of n substances.
-pub fn state_of(record: &[u8], n: usize) -> State
-    requires { ⌜ Whole (now «record») n ⌝ }
-    ensures { λ r. ⌜ r ≡ stateOf (now («record» .entry)) n ⌝ }
+pub fn state_of(record: &[u8], h: Header) -> State
+    requires { ⌜ Whole (now «record») h ⌝ }
+    ensures { λ r. ⌜ r ≡ stateOf (now («record» .entry)) h ⌝ }
 {
-    let first = 4 * n + pairs(n);
-    let temperature = double(record, first);
-    let partial_density = row8(record, first + 1, 1, n);
-    let molefracs = row8(record, first + 1 + n, 1, n);
+    let n = h.n;
+    let l = layout_of(h);
+    let temperature = double(record, l.temperature);
+    let partial_density = row8(record, l.partial_density, 1, n);
+    let molefracs = row8(record, l.molefracs, 1, n);
     State {
         temperature,
         partial_density,
@@ -102,14 +91,15 @@ pub fn state_of(record: &[u8], n: usize) -> State
 
 // The case of a record that the checks 2, 5 and 6 pass.
 pub fn case_of(record: &[u8]) -> Case
-    requires { ⌜ Whole (now «record») (components (now «record»)) ⌝ }
+    requires { ⌜ Whole (now «record») (headerOf (now «record»)) ⌝ }
     ensures { λ r. ⌜ r ≡ caseOf (now («record» .entry)) ⌝ }
 {
-    let n = record[4] as usize;
-    let mixture = mixture_of(record, n);
-    let state = state_of(record, n);
+    let h = header_of(record);
+    let mixture = mixture_of(record, h);
+    let state = state_of(record, h);
+    let perturbation = perturbation_of(h);
     Case {
-        perturbation: record[3],
+        perturbation,
         mixture,
         state,
     }

@@ -1,4 +1,4 @@
-// Case records of document 01: reading, and the checks 2 to 8.
+// Case records of document 01: their layout, and the case that a record holds.
 pub mod bytes;
 pub mod case;
-pub mod checks;
+pub mod layout;

@@ -1,8 +1,8 @@
--- The checks 2 to 8 of a case record, in the order of document 01's table.
+-- The checks of a case record, in stages: the envelope, the substances, the state. The calls put them together in document 01's order, and stop behind the stage that they need.
 use Prim.Native.Nat.{ℕ, zero, suc, _+_, _-_, _^_}
 use mathlib.Core.Path.{_≡_, refl}
 use mathlib.Core.Bool.{Bool, true, false, not, _&&_, cond}
-use mathlib.Core.List.{List, [], _∷_}
+use mathlib.Core.List.{List, [], _∷_, _++_}
 use lib.ListN.{length, getD}
 use lib.Dec.{leb, eqb}
 use lib.Ieee.{Float, nan, inf, binary64, ofBits, round, le}
@@ -10,8 +10,9 @@ use Rattle.arithmetic.specs.Constants.{bits}
 use Rattle.arithmetic.specs.Doubles.{guarded}
 use Rattle.uvtheory.specs.declared.parameters.Mixture.{Mixture}
 use Rattle.uvtheory.specs.declared.parameters.State.{State}
-use Rattle.case_record.specs.declared.checks.Interval.{Interval}
-use Rattle.case_record.specs.Record.{lengthField, version, perturbation, components, pairs, lengthOf, mixtureOf, stateOf}
+use Rattle.case_record.specs.declared.case.Case.{Case}
+use Rattle.case_record.specs.Layout.{lengthField, headerOf, pairs, lengthOf}
+use Rattle.checks.specs.declared.Interval.{Interval}
 
 -- ---- "Intervals are closed. NaN and infinities lie in none; −0 counts as 0."
 abbrev pub inside : Interval → Float → Bool
@@ -88,10 +89,10 @@ pub minus-zero : (inside k-ij (bits 0x8000000000000000) ≡ true) × (inside den
 unfolding ofBits le
 minus-zero = (refl, refl, refl)
 
--- ---- the table
+-- ---- the tests of a mixture and of a state
 -- the substances and their pairs
-unfoldable pub substances : Mixture → Bool
-substances m =
+unfoldable pub substancesInside : Mixture → Bool
+substancesInside m =
     allInside rep (m .n) (m .rep) &&
     allInside att (m .n) (m .att) &&
     allInside sigma (m .n) (m .sigma) &&
@@ -99,30 +100,35 @@ substances m =
     allInside k-ij (pairs (m .n)) (m .«k_ij»)
 
 -- the state of n substances
-unfoldable pub state : ℕ → State → Bool
-state n t =
+unfoldable pub stateInside : ℕ → State → Bool
+stateInside n t =
     inside temperature (t .temperature) &&
     allInside density n (t .«partial_density») &&
     allInside fraction n (t .molefracs) &&
     inside fractionSum (guarded .sum n (λ i. getD (t .molefracs) i nan))
 
--- Each code with a test, which fails where the code applies: "record under 5 bytes, or length is not its bytes less 2", "not 1", "above 2", "n not 1 to 8", "length not that of n"
-abbrev pub checks : List ℕ → List (ℕ × Bool)
-checks s =
-    let n = components s in
+-- ---- the stages of document 01's table: each code with a test, which fails where the code applies
+abbrev pub Checks : Type 0
+Checks = List (ℕ × Bool)
+
+-- "record under 5 bytes, or length is not its bytes less 2", "not 1", "above 2", "n not 1 to 8", "length not that of n"
+abbrev pub envelope : List ℕ → Checks
+envelope s =
+    let h = headerOf s in
     (2, leb 5 (length s) && eqb (lengthField s) (length s - 2)) ∷
-    (3, eqb (version s) 1) ∷
-    (4, leb (perturbation s) 2) ∷
-    (5, leb 1 n && leb n 8) ∷
-    (6, eqb (lengthField s) (lengthOf n)) ∷
-    (7, substances (mixtureOf s n)) ∷
-    (8, state n (stateOf s n)) ∷
+    (3, eqb (h .version) 1) ∷
+    (4, leb (h .perturbation) 2) ∷
+    (5, leb 1 (h .n) && leb (h .n) 8) ∷
+    (6, eqb (lengthField s) (lengthOf h)) ∷
     []
 
+abbrev pub substances : Case → Checks
+substances c = (7, substancesInside (c .mixture)) ∷ []
+
+abbrev pub state : Case → Checks
+state c = (8, stateInside (c .mixture .n) (c .state)) ∷ []
+
 -- the code of the first test that fails, or 0
-abbrev pub firstFailing : List (ℕ × Bool) → ℕ
+abbrev pub firstFailing : Checks → ℕ
 firstFailing [] = 0
 firstFailing ((code, passes) ∷ rest) = cond passes (firstFailing rest) code
-
-unfoldable pub refusalOf : List ℕ → ℕ
-refusalOf s = firstFailing (checks s)

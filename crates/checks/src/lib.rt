@@ -1,13 +1,13 @@
-// The checks 2 to 8 of a record.
+// The checks of a record, in stages: the envelope, the substances, the state.
 ghost use mathlib.Core.Path.{_≡_};
 ghost use Prim.Native.Nat.{_≤_};
 ghost use lib.ListN.{length};
-ghost use Rattle.case_record.specs.Checks.{allInside, inside, refusalOf, state, substances};
-use crate::bytes::big_endian2;
-use crate::case::length_of;
-use crate::case::mixture_of;
-use crate::case::pairs;
-use crate::case::state_of;
+ghost use Rattle.checks.specs.Checks.{allInside, envelope, firstFailing, inside, state, stateInside, substances, substancesInside};
+use case_record::bytes::big_endian2;
+use case_record::case::Case;
+use case_record::layout::header_of;
+use case_record::layout::length_of;
+use case_record::layout::pairs;
 use uvtheory::hard_sphere::sum;
 use uvtheory::parameters::Mixture;
 use uvtheory::parameters::State;
@@ -52,10 +52,9 @@ fn all_inside(i: Interval, n: usize, values: &[f64]) -> bool
     all
 }
 
-// The check 7.
 fn substances_inside(m: Mixture) -> bool
     requires { ⌜ m .n ≤ 8 ⌝ }
-    ensures { λ r. ⌜ r ≡ substances m ⌝ }
+    ensures { λ r. ⌜ r ≡ substancesInside m ⌝ }
 {
     let n = m.n;
     let rep = m.rep;
@@ -70,10 +69,10 @@ fn substances_inside(m: Mixture) -> bool
         & all_inside(K_IJ, pairs(n), &k_ij)
 }
 
-// The check 8, of n substances.
+// Of n substances.
 fn state_inside(n: usize, t: State) -> bool
     requires { ⌜ n ≤ 8 ⌝ }
-    ensures { λ r. ⌜ r ≡ state n t ⌝ }
+    ensures { λ r. ⌜ r ≡ stateInside n t ⌝ }
 {
     let density = t.partial_density;
     let fraction = t.molefracs;
@@ -83,9 +82,9 @@ fn state_inside(n: usize, t: State) -> bool
         & inside(FRACTION_SUM, sum(n, &fraction))
 }
 
-// The code of the first check that fails, or 0. Only the bytes that the checks before it have shown to be there are read.
-pub fn refusal(record: &[u8]) -> u8
-    ensures { λ r. ⌜ r ≡ refusalOf (now («record» .entry)) ⌝ }
+// The codes 2 to 6. Only the bytes that the checks before have shown to be there are read.
+pub fn envelope(record: &[u8]) -> u8
+    ensures { λ r. ⌜ r ≡ firstFailing (envelope (now («record» .entry))) ⌝ }
 {
     if record.len() < 5 {
         return 2;
@@ -94,27 +93,40 @@ pub fn refusal(record: &[u8]) -> u8
     if length != record.len() - 2 {
         return 2;
     }
-    if record[2] != 1 {
+    let h = header_of(record);
+    if h.version != 1 {
         return 3;
     }
-    if record[3] > 2 {
+    if h.perturbation > 2 {
         return 4;
     }
-    let n = record[4] as usize;
-    if n < 1 {
+    if h.n < 1 {
         return 5;
     }
-    if n > 8 {
+    if h.n > 8 {
         return 5;
     }
-    if length != length_of(n) {
+    if length != length_of(h) {
         return 6;
     }
-    if !substances_inside(mixture_of(record, n)) {
-        return 7;
-    }
-    if !state_inside(n, state_of(record, n)) {
-        return 8;
-    }
     0
+}
+
+// The code 7.
+pub fn substances(c: Case) -> u8
+    requires { ⌜ c .mixture .n ≤ 8 ⌝ }
+    ensures { λ r. ⌜ r ≡ firstFailing (substances c) ⌝ }
+{
+    let m = c.mixture;
+    if substances_inside(m) { 0 } else { 7 }
+}
+
+// The code 8.
+pub fn state(c: Case) -> u8
+    requires { ⌜ c .mixture .n ≤ 8 ⌝ }
+    ensures { λ r. ⌜ r ≡ firstFailing (state c) ⌝ }
+{
+    let m = c.mixture;
+    let t = c.state;
+    if state_inside(m.n, t) { 0 } else { 8 }
 }
