@@ -1,4 +1,2 @@
 -- Laws of the definitions.
-pub mod Digits
-pub mod Patterns
 pub mod Writing

@@ -7,7 +7,7 @@ use native.Mathlib.Omega.{arith}
 use lib.ListN.{length, getD, take, drop, length-append, take-append-drop}
 use lib.Seq.{take-append-seam, drop-append-add, drop-drop, take-suc, take-length, length-take-le}
 use lib.Ieee.{Float, nan}
-use Rattle.case_record.specs.Bytes.{bytesOf, doubleBytes, doublesBytes, written}
+use Rattle.big_endian.specs.Bytes.{bytesOf, doubleBytes, doublesBytes, written}
 use Rattle.answer.specs.declared.Answer.{Answer}
 use Rattle.answer.specs.Answer.{answerBytes, answerWith, codeOf, doublesOf}
 

@@ -6,7 +6,7 @@ use lib.ListN.{length}
 use lib.Ieee.{Float}
 use Rattle.range.specs.declared.basic.Range.{Range}
 use Rattle.dual.specs.declared.basic.Dual.{Dual}
-use Rattle.case_record.specs.Bytes.{bytesOf, doubleBytes, doublesBytes}
+use Rattle.big_endian.specs.Bytes.{bytesOf, doubleBytes, doublesBytes}
 use Rattle.answer.specs.declared.Answer.{Answer}
 use Rattle.answer.specs.declared.Answer.the-variants.{Energies, Ends, Slopes, Refused}
 

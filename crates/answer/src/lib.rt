@@ -3,13 +3,11 @@ ghost use mathlib.Core.Path.{_≡_};
 ghost use Prim.Native.Nat.{_+_, _*_, _≤_};
 ghost use mathlib.Core.List.{[], _∷_};
 ghost use lib.ListN.{length};
-ghost use Rattle.case_record.specs.Bytes.{written};
+ghost use Rattle.big_endian.specs.Bytes.{written};
 ghost use Rattle.answer.specs.Answer.{answerBytes, answerWith, codeOf};
-use crate::bytes::put_double;
+use big_endian::put_double;
 use dual::basic::Dual;
 use range::basic::Range;
-
-pub mod bytes;
 
 // The answer of a case: what a kind of call gives of hard sphere, reference and attractive, in this order, or a number of refusal.
 pub enum Answer {

@@ -1,6 +1,3 @@
--- Laws of the definitions, and examples.
-pub mod Digits
-pub mod Patterns
+-- Laws of the definitions, and an example.
 pub mod Rows
-pub mod Accepted
 pub mod Examples

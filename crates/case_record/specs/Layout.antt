@@ -8,7 +8,7 @@ use Rattle.uvtheory.specs.declared.eos.Perturbation.{Perturbation}
 use Rattle.uvtheory.specs.declared.eos.Perturbation.the-variants.{BarkerHenderson, WeeksChandlerAndersen, WeeksChandlerAndersenB3}
 use Rattle.case_record.specs.declared.layout.Header.{Header}
 use Rattle.case_record.specs.declared.layout.Layout.{Layout}
-use Rattle.case_record.specs.Bytes.{bigEndian}
+use Rattle.big_endian.specs.Bytes.{bigEndian}
 
 -- "Length is 2 bytes, big-endian, and counts what follows it. Then: version (1 byte, 1); perturbation (1 byte: 0 BH, 1 WCA, 2 WCA-B3); n (1 byte)"
 abbrev pub lengthField : List ℕ → ℕ

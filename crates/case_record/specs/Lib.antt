@@ -1,4 +1,3 @@
--- What document 01 says of case records, and of bytes.
-pub mod Bytes
+-- What document 01 says of case records.
 pub mod Layout
 pub mod Record

@@ -8,7 +8,7 @@ use Rattle.uvtheory.specs.declared.parameters.Mixture.{Mixture}
 use Rattle.uvtheory.specs.declared.parameters.State.{State}
 use Rattle.case_record.specs.declared.case.Case.{Case}
 use Rattle.case_record.specs.declared.layout.Header.{Header}
-use Rattle.case_record.specs.Bytes.{doubleAt}
+use Rattle.big_endian.specs.Bytes.{doubleAt}
 use Rattle.case_record.specs.Layout.{headerOf, layoutOf, lengthOf, pairs, perturbationOf}
 
 -- the doubles that follow n, counted from 0

@@ -5,7 +5,7 @@ ghost use mathlib.Core.List.{_++_};
 ghost use lib.ListN.{length, drop};
 ghost use Rattle.case_record.specs.Layout.{headerOf};
 ghost use Rattle.case_record.specs.Record.{Whole, caseOf, column, double, mixtureOf, row, stateOf, values};
-use crate::bytes::double_at;
+use big_endian::double_at;
 use crate::layout::Header;
 use crate::layout::header_of;
 use crate::layout::layout_of;

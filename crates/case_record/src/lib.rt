@@ -1,4 +1,3 @@
 // Case records of document 01: their layout, and the case that a record holds.
-pub mod bytes;
 pub mod case;
 pub mod layout;

@@ -3,7 +3,7 @@ ghost use mathlib.Core.Path.{_≡_};
 ghost use Prim.Native.Nat.{_≤_};
 ghost use lib.ListN.{length};
 ghost use Rattle.checks.specs.Checks.{allInside, envelope, firstFailing, inside, state, stateInside, substances, substancesInside};
-use case_record::bytes::big_endian2;
+use big_endian::big_endian2;
 use case_record::case::Case;
 use case_record::layout::header_of;
 use case_record::layout::length_of;

@@ -29,7 +29,7 @@ use Rattle.eos.specs.Slopes as WithSlopes
 use Rattle.eos.proofs.Agreement.{contributions-agree}
 use Rattle.eos.proofs.Sloped as Sloped
 use Rattle.case_record.specs.declared.case.Case.{Case}
-use Rattle.case_record.specs.Bytes.{bytesOf, doubleBytes}
+use Rattle.big_endian.specs.Bytes.{bytesOf, doubleBytes}
 use Rattle.case_record.specs.Record.{caseOf}
 use Rattle.case_record.specs.Checks.{refusalOf}
 use Rattle.answer.specs.declared.Answer.{Answer}

@@ -9,7 +9,7 @@ use lib.ListN.{length, take, drop, length-append, take-append-drop, List·getD-a
 use lib.Seq.{length-take-le, take-append-seam, drop-append-seam, drop-drop}
 use lib.Dec.{eqb, ltb}
 use borrow.Author.Tests.{le-leb, ne-eqb, le-ltb}
-use Rattle.case_record.specs.Bytes.{bigEndian, written}
+use Rattle.big_endian.specs.Bytes.{bigEndian, written}
 use Rattle.noddyfir.specs.declared.call.Kind.{Kind}
 use Rattle.noddyfir.specs.Call.{answerTo, callBuffer, roomOf}
 use Rattle.noddyfir.specs.declared.reader.Next.{Next}

@@ -13,7 +13,7 @@ use Rattle.range.specs.Rules.{range, point, zero, ranges}
 use Rattle.range.proofs.Rows as Ranges
 use Rattle.uvtheory.specs.Parameters.{UVTheoryPars, new}
 use Rattle.uvtheory.specs.Rows.{row}
-use Rattle.case_record.specs.Bytes.{bigEndian, bytesOf}
+use Rattle.big_endian.specs.Bytes.{bigEndian, bytesOf}
 use Rattle.case_record.specs.Record.{lengthOf}
 use Rattle.case_record.specs.Record as Record
 use Rattle.case_record.specs.Checks.{refusalOf}

@@ -9,7 +9,7 @@ use lib.ListN.{length, take, drop, length-append, length-drop, take-append-drop,
 use lib.Seq.{getD-drop, length-take-le, take-at, drop-at, drop-drop, take-all}
 use lib.Dec.{leb, eqb, ltb}
 use borrow.Author.Tests.{le-leb, lt-leb, eq-eqb, ne-eqb, lt-ltb, le-ltb, leb-true}
-use Rattle.case_record.specs.Bytes.{bigEndian, written}
+use Rattle.big_endian.specs.Bytes.{bigEndian, written}
 use Rattle.noddyfir.specs.Call.{callBuffer, callCode}
 use Rattle.noddyfir.specs.declared.reader.Next.{Next}
 use Rattle.noddyfir.specs.declared.reader.Next.the-variants.{UsedUp, Broken, Whole}

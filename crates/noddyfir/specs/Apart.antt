@@ -3,7 +3,7 @@ use Prim.Native.Nat.{ℕ, _+_, _≤_}
 use mathlib.Core.Path.{_≡_}
 use mathlib.Core.List.{List, [], _∷_, _++_, map}
 use lib.ListN.{length, take, drop}
-use Rattle.case_record.specs.Bytes.{bigEndian, written}
+use Rattle.big_endian.specs.Bytes.{bigEndian, written}
 use Rattle.noddyfir.specs.Call.{callBuffer}
 use Rattle.noddyfir.specs.Run.{Outcome}
 

@@ -17,7 +17,7 @@ use Rattle.uvtheory.specs.Contributions.{Contributions}
 use Rattle.eos.specs.Sent.{contributions}
 use Rattle.eos.specs.Slopes as WithSlopes
 use Rattle.case_record.specs.declared.case.Case.{Case}
-use Rattle.case_record.specs.Bytes.{written}
+use Rattle.big_endian.specs.Bytes.{written}
 use Rattle.case_record.specs.Record.{caseOf}
 use Rattle.case_record.specs.Checks.{refusalOf}
 use Rattle.answer.specs.declared.Answer.{Answer}

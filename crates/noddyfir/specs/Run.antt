@@ -5,7 +5,7 @@ use mathlib.Core.List.{List, _++_}
 use mathlib.Core.Bool.{cond, _&&_}
 use lib.ListN.{length, take, drop}
 use lib.Dec.{ltb, leb, eqb}
-use Rattle.case_record.specs.Bytes.{bigEndian}
+use Rattle.big_endian.specs.Bytes.{bigEndian}
 use Rattle.noddyfir.specs.declared.run.Run.{Run}
 use Rattle.noddyfir.specs.declared.reader.Next.{Next}
 use Rattle.noddyfir.specs.declared.reader.Next.the-variants.{UsedUp, Broken, Whole}

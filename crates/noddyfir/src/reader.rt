@@ -4,7 +4,7 @@ ghost use mathlib.Core.Path.{_≡_};
 ghost use Prim.Native.Nat.{_+_, _≤_};
 ghost use lib.ListN.{drop, length, take};
 ghost use Rattle.noddyfir.specs.Run.{nextAt};
-use case_record::bytes::big_endian2;
+use big_endian::big_endian2;
 
 pub struct Reader<'a> {
     src: &'a [u8],

@@ -5,7 +5,7 @@ use mathlib.Core.List.{_++_}
 use native.Mathlib.Omega.{arith}
 use borrow.Author.Needs.{needs}
 use lib.ListN.{length, take}
-use Rattle.case_record.specs.Bytes.{doublesBytes, written}
+use Rattle.big_endian.specs.Bytes.{doublesBytes, written}
 use Rattle.answer.proofs.Writing.{none-yet, double-more, whole-answer}
 use Rattle.answer.proofs.put_answer.Statement.{statement}
 use Rattle.answer.proofs.put_answer.Tie as tie

@@ -3,10 +3,10 @@ use Prim.Native.Nat.{_+_, _-_, _^_, _≤_, _<_}
 use mathlib.Core.Path.{_≡_, refl}
 use native.Mathlib.Numerals.{add-one}
 use native.Mathlib.Omega.{arith}
-use Rattle.case_record.specs.Bytes.{bigEndian}
-use Rattle.case_record.proofs.Digits.{digit-below, word}
-use Rattle.case_record.proofs.bytes.big_endian.Statement.{statement}
-use Rattle.case_record.proofs.bytes.big_endian.Tie as tie
+use Rattle.big_endian.specs.Bytes.{bigEndian}
+use Rattle.big_endian.proofs.Digits.{digit-below, word}
+use Rattle.big_endian.proofs.big_endian.Statement.{statement}
+use Rattle.big_endian.proofs.big_endian.Tie as tie
 
 abbrev Inv-loop : tie.InvT-loop
 Inv-loop bytes at count n₀ k₀ n k = (k ≤ count) × (n ≡ bigEndian bytes at k) × (n < 256 ^ k)

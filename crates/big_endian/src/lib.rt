@@ -1,8 +1,10 @@
-// Numbers and doubles of bytes, the most significant first.
+// Numbers and doubles as bytes, the most significant first: read and written.
 ghost use mathlib.Core.Path.{_≡_};
 ghost use Prim.Native.Nat.{_+_, _≤_, _<_, _^_};
-ghost use lib.ListN.{length};
-ghost use Rattle.case_record.specs.Bytes.{bigEndian, doubleAt};
+ghost use mathlib.Core.List.{_++_};
+ghost use lib.ListN.{length, take, drop};
+ghost use lib.Ieee.{binary64, toBits};
+ghost use Rattle.big_endian.specs.Bytes.{bigEndian, doubleAt, doubleBytes};
 
 // The number that `count` bytes from `at` on are.
 fn big_endian(bytes: &[u8], at: usize, count: usize) -> u64
@@ -34,4 +36,26 @@ pub fn double_at(bytes: &[u8], at: usize) -> f64
         return 0.0 / 0.0;
     }
     f64::from_bits(bits)
+}
+
+// The pattern of a double. A NaN has the one of the definition, since to_bits takes none.
+fn bits_of(x: f64) -> u64
+    ensures { λ r. ⌜ r ≡ toBits binary64 x ⌝ }
+{
+    if x != x {
+        return 0x7ff8_0000_0000_0000;
+    }
+    f64::to_bits(x)
+}
+
+// Writes a double into the eight bytes from `at` on, the last byte first.
+pub fn put_double(buffer: &mut [u8], at: usize, x: f64)
+    requires { ⌜ at + 8 ≤ length (now buffer) ⌝ }
+    ensures { λ _. ⌜ now (buffer .exit) ≡ take at (now (buffer .entry)) ++ doubleBytes x ++ drop (at + 8) (now (buffer .entry)) ⌝ }
+{
+    let mut rest = bits_of(x);
+    for k in 0..8 {
+        buffer[at + (7 - k)] = (rest % 256) as u8;
+        rest = rest / 256;
+    }
 }

@@ -2,10 +2,10 @@
 use mathlib.Core.Path.{ap, _∙_}
 use borrow.Author.Needs.{needs}
 use lib.Ieee.{binary64, ofBits}
-use Rattle.case_record.specs.Bytes.{doubleAt}
-use Rattle.case_record.proofs.Patterns.{read-nan, no-nan-bits}
-use Rattle.case_record.proofs.bytes.double_at.Statement.{statement}
-use Rattle.case_record.proofs.bytes.double_at.Tie as tie
+use Rattle.big_endian.specs.Bytes.{doubleAt}
+use Rattle.big_endian.proofs.Patterns.{read-nan, no-nan-bits}
+use Rattle.big_endian.proofs.double_at.Statement.{statement}
+use Rattle.big_endian.proofs.double_at.Tie as tie
 
 returns : tie.Need-returns
 unfolding doubleAt

@@ -6,10 +6,10 @@ use native.Mathlib.Nat.{add-zero, div-one}
 use native.Mathlib.Numerals.{add-one}
 use native.Mathlib.Omega.{arith}
 use lib.ListN.{length, take, drop, length-set, take-append-drop}
-use Rattle.case_record.specs.Bytes.{bytesOf, doubleBytes}
-use Rattle.answer.proofs.Digits.{rest-more, byte-more}
-use Rattle.answer.proofs.bytes.put_double.Statement.{statement}
-use Rattle.answer.proofs.bytes.put_double.Tie as tie
+use Rattle.big_endian.specs.Bytes.{bytesOf, doubleBytes}
+use Rattle.big_endian.proofs.Digits.{rest-more, byte-more}
+use Rattle.big_endian.proofs.put_double.Statement.{statement}
+use Rattle.big_endian.proofs.put_double.Tie as tie
 
 abbrev Inv-loop : tie.InvT-loop
 Inv-loop buffer₀ at x rest₀ k₀ buffer rest k =

@@ -1,0 +1,2 @@
+-- Numbers and doubles as bytes.
+pub mod Bytes
