@@ -1,33 +1,28 @@
--- A record of two substances and the records of document 01's seven bytes, by computation.
+-- A record of two substances, by computation.
 use Prim.Native.Nat.{ℕ}
 use mathlib.Core.Path.{_≡_, refl}
 use mathlib.Core.Bool.{false}
 use mathlib.Core.List.{List, [], _∷_, _++_}
 use lib.ListN.{replicate}
-use lib.Ieee.{Float, binary64, ofBits, toBits, round, le, add}
-use Rattle.arithmetic.specs.Arithmetic.{sumBy}
+use lib.Ieee.{Float, binary64, ofBits, toBits, round}
 use Rattle.arithmetic.specs.Constants.{zeroD}
 use Rattle.big_endian.specs.Bytes.{bigEndian, bytesOf, doubleAt, doubleBytes, doublesBytes}
+use Rattle.uvtheory.specs.declared.eos.Perturbation.the-variants.{WeeksChandlerAndersen}
 use Rattle.case_record.specs.Record.{caseOf, mixtureOf, stateOf, values}
-use Rattle.case_record.specs.Checks.{allInside, refusalOf, state, substances}
 
 -- num / den
 abbrev d : ℕ → ℕ → Float
 d num den = round binary64 false num den
 
 -- WCA; rep 9, 16; att 6, 6; sigma 3, 4; epsilon_k 100, 400; k_ij 0.25; temperature 300; densities 0.5 and 0.125; fractions 0.75 and 0.25
-two-substances : List ℕ
+pub two-substances : List ℕ
 two-substances =
     bytesOf 115 2
     ++ (1 ∷ 1 ∷ 2 ∷ [])
     ++ doublesBytes (d 9 1 ∷ d 6 1 ∷ d 3 1 ∷ d 100 1 ∷ d 16 1 ∷ d 6 1 ∷ d 4 1 ∷ d 400 1 ∷ d 1 4 ∷ d 300 1 ∷ d 1 2 ∷ d 1 8 ∷ d 3 4 ∷ d 1 4 ∷ [])
 
-its-refusal : refusalOf two-substances ≡ 0
-unfolding two-substances bigEndian bytesOf doubleAt doubleBytes mixtureOf stateOf values allInside refusalOf state substances sumBy ofBits toBits round le add
-its-refusal = refl
-
 its-case : caseOf two-substances ≡ record {
-  perturbation = 1;
+  perturbation = WeeksChandlerAndersen;
   mixture = record {
     n = 2;
     rep = d 9 1 ∷ d 16 1 ∷ replicate 6 zeroD;
@@ -44,8 +39,3 @@ its-case : caseOf two-substances ≡ record {
 }
 unfolding two-substances bigEndian bytesOf doubleAt doubleBytes mixtureOf stateOf values ofBits toBits round
 its-case = refl
-
--- "Input 00 00 00 03 01 00 00 (hexadecimal) gives 00 02 01 02 00 02 01 05"
-seven-bytes : (refusalOf (0x00 ∷ 0x00 ∷ []) ≡ 2) × (refusalOf (0x00 ∷ 0x03 ∷ 0x01 ∷ 0x00 ∷ 0x00 ∷ []) ≡ 5)
-unfolding bigEndian refusalOf
-seven-bytes = (refl, refl)

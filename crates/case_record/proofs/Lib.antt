@@ -1,3 +1,4 @@
 -- Laws of the definitions, and an example.
+pub mod Sizes
 pub mod Rows
 pub mod Examples

@@ -97,7 +97,7 @@ pub fn case_of(record: &[u8]) -> Case
     let h = header_of(record);
     let mixture = mixture_of(record, h);
     let state = state_of(record, h);
-    let perturbation = perturbation_of(h);
+    let perturbation = perturbation_of(h.perturbation);
     Case {
         perturbation,
         mixture,

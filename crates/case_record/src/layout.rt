@@ -33,10 +33,10 @@ pub fn header_of(record: &[u8]) -> Header
 }
 
 // What the perturbation byte means.
-pub fn perturbation_of(h: Header) -> Perturbation
-    ensures { λ r. ⌜ r ≡ perturbationOf (h .perturbation) ⌝ }
+pub fn perturbation_of(byte: u8) -> Perturbation
+    ensures { λ r. ⌜ r ≡ perturbationOf byte ⌝ }
 {
-    match h.perturbation {
+    match byte {
         0 => Perturbation::BarkerHenderson,
         1 => Perturbation::WeeksChandlerAndersen,
         _ => Perturbation::WeeksChandlerAndersenB3,
