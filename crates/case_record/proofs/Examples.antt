@@ -15,7 +15,7 @@ abbrev d : ℕ → ℕ → Float
 d num den = round binary64 false num den
 
 -- WCA; rep 9, 16; att 6, 6; sigma 3, 4; epsilon_k 100, 400; k_ij 0.25; temperature 300; densities 0.5 and 0.125; fractions 0.75 and 0.25
-pub two-substances : List ℕ
+unfoldable pub two-substances : List ℕ
 two-substances =
     bytesOf 115 2
     ++ (1 ∷ 1 ∷ 2 ∷ [])

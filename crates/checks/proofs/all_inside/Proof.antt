@@ -4,9 +4,9 @@ use mathlib.Core.Path.{_≡_, refl}
 use native.Mathlib.Numerals.{add-one}
 use native.Mathlib.Omega.{arith}
 use borrow.Author.Needs.{needs}
-use Rattle.case_record.specs.Checks.{allInside}
-use Rattle.case_record.proofs.checks.all_inside.Statement.{statement}
-use Rattle.case_record.proofs.checks.all_inside.Tie as tie
+use Rattle.checks.specs.Checks.{allInside}
+use Rattle.checks.proofs.all_inside.Statement.{statement}
+use Rattle.checks.proofs.all_inside.Tie as tie
 
 abbrev Inv-loop : tie.InvT-loop
 Inv-loop i n values all₀ k₀ all k = (k ≤ n) × (all ≡ allInside i k values)

@@ -1,137 +1,117 @@
--- At each check that is passed, the refusal is that of the checks behind it; the one that fails gives its code.
-use Prim.Native.Nat.{ℕ}
-use mathlib.Core.Path.{_≡_, sym, ap, _∙_}
+-- At each check that is passed, the code is that of the checks behind it; the one that fails gives its code.
+use Prim.Native.Nat.{ℕ, _≤_, _<_}
+use mathlib.Core.Path.{_≡_, sym, subst, _∙_}
 use mathlib.Core.List.{List}
-use native.Mathlib.Omega.{arith}
 use borrow.Author.Needs.{needs}
-use borrow.Author.Tests.{le-leb, lt-leb, eq-eqb, ne-eqb, not-true, not-false}
+use borrow.Author.Tests.{le-leb, lt-leb, eq-eqb, ne-eqb}
 use lib.ListN.{length, drop}
-use Rattle.case_record.specs.Record.{lengthField, components, mixtureOf, stateOf}
-use Rattle.case_record.specs.Checks.{checks, firstFailing, refusalOf, substances, state}
-use Rattle.case_record.proofs.checks.refusal.Statement.{statement}
-use Rattle.case_record.proofs.checks.refusal.Tie as tie
+use Rattle.case_record.specs.declared.layout.Header.{Header}
+use Rattle.case_record.specs.Layout.{lengthField, headerOf, lengthOf}
+use Rattle.checks.specs.Checks.{envelope, firstFailing}
+use Rattle.checks.proofs.envelope.Statement.{statement}
+use Rattle.checks.proofs.envelope.Tie as tie
 
 -- what all but the first k checks say
 abbrev from : ℕ → List ℕ → ℕ
-from k s = firstFailing (drop k (checks s))
+from k s = firstFailing (drop k (envelope s))
 
--- the record, at the places behind the checks
+-- the header as read, at the places behind the checks, and the record
+abbrev h₃ : tie.Else3 → tie.After-header-of
+h₃ c = c .before .before
+
+abbrev h₄ : tie.Else4 → tie.After-header-of
+h₄ c = h₃ (c .before .before)
+
+abbrev h₅ : tie.Else5 → tie.After-header-of
+h₅ c = h₄ (c .before .before)
+
+abbrev h₆ : tie.Else6 → tie.After-header-of
+h₆ c = h₅ (c .before .before)
+
 abbrev s₁ : tie.Else1 → List ℕ
 s₁ c = c .before .before .args .«record» .now
 
-abbrev s₂ : tie.Else2 → List ℕ
-s₂ c = s₁ (c .before .before)
-
-abbrev s₃ : tie.Else3 → List ℕ
-s₃ c = s₂ (c .before .before)
-
-abbrev s₄ : tie.Else4 → List ℕ
-s₄ c = s₃ (c .before .before)
-
-abbrev s₆ : tie.Else6 → List ℕ
-s₆ c = s₄ (c .before .before .before)
-
-abbrev s₇ : tie.Else7 → List ℕ
-s₇ c = s₆ (c .before .before)
-
-abbrev s₈ : tie.Else8 → List ℕ
-s₈ c = s₇ (c .before .before .before)
+abbrev s : tie.After-header-of → List ℕ
+s c = s₁ (c .before .before .before)
 
 -- what the calls have returned
 length-is : (c : tie.After-big-endian2) → lengthField (s₁ (c .before)) ≡ c .big-endian2 .result
 length-is c = sym (c .big-endian2 .ensures .0)
 
-abbrev read : tie.Else6 → tie.After-big-endian2
-read c = c .before .before .before .before .before .before .before .before
-
-substances-are : (c : tie.After-substances-inside) → let s = s₇ (c .before .before) in substances (mixtureOf s (components s)) ≡ c .substances-inside .result
-substances-are c = sym (c .substances-inside .ensures ∙ ap substances (c .before .mixture-of .ensures))
-
-state-is : (c : tie.After-state-inside) → let s = s₈ (c .before .before) in state (components s) (stateOf s (components s)) ≡ c .state-inside .result
-state-is c = sym (c .state-inside .ensures ∙ ap (state (components (s₈ (c .before .before)))) (c .before .state-of .ensures))
+of-header : (c : tie.After-header-of) (P : Header → Type 0) → P (c .header-of .result) → P (headerOf (s c))
+of-header c P = subst P (c .header-of .ensures)
 
 -- behind each check
-past-envelope : (c : tie.Else2) → refusalOf (s₂ c) ≡ from 1 (s₂ c)
-unfolding refusalOf
-past-envelope c = simp (le-leb 5 (length (s₂ c)) (c .before .before .if1 .left), eq-eqb _ _ (length-is (c .before) ∙ c .if2 .left))
+past-envelope : (c : tie.After-header-of) → firstFailing (envelope (s c)) ≡ from 1 (s c)
+past-envelope c =
+    let e = c .before in
+    simp (le-leb 5 (length (s c)) (e .before .before .if1 .left), eq-eqb _ _ (length-is (e .before) ∙ e .if2 .left))
 
-past-version : (c : tie.Else3) → refusalOf (s₃ c) ≡ from 2 (s₃ c)
-past-version c = past-envelope (c .before .before) ∙ simp (eq-eqb _ _ (c .if3 .left))
+past-version : (c : tie.Else3) → let t = s (h₃ c) in firstFailing (envelope t) ≡ from 2 t
+past-version c = past-envelope (h₃ c) ∙ simp (eq-eqb _ _ (of-header (h₃ c) (λ h. h .version ≡ 1) (c .if3 .left)))
 
-past-perturbation : (c : tie.Else4) → refusalOf (s₄ c) ≡ from 3 (s₄ c)
-past-perturbation c = past-version (c .before .before) ∙ simp (le-leb _ _ (c .if4 .left))
+past-perturbation : (c : tie.Else4) → let t = s (h₄ c) in firstFailing (envelope t) ≡ from 3 t
+past-perturbation c = past-version (c .before .before) ∙ simp (le-leb _ _ (of-header (h₄ c) (λ h. h .perturbation ≤ 2) (c .if4 .left)))
 
-past-components : (c : tie.Else6) → refusalOf (s₆ c) ≡ from 4 (s₆ c)
-past-components c = past-perturbation (c .before .before .before) ∙ simp (le-leb _ _ (c .before .if5 .left), le-leb _ _ (c .if6 .left))
+some : (c : tie.Else5) → 1 ≤ headerOf (s (h₅ c)) .n
+some c = of-header (h₅ c) (λ h. 1 ≤ h .n) (c .if5 .left)
 
-past-size : (c : tie.Else7) → refusalOf (s₇ c) ≡ from 5 (s₇ c)
-past-size c = past-components (c .before .before) ∙ simp (eq-eqb _ _ (length-is (read (c .before .before)) ∙ c .if7 .left ∙ c .before .length-of .ensures))
+past-components : (c : tie.Else6) → let t = s (h₆ c) in firstFailing (envelope t) ≡ from 4 t
+past-components c =
+    past-perturbation (c .before .before .before .before)
+    ∙ simp (le-leb _ _ (some (c .before .before)), le-leb _ _ (of-header (h₆ c) (λ h. h .n ≤ 8) (c .if6 .left)))
 
-past-substances : (c : tie.Else8) → refusalOf (s₈ c) ≡ from 6 (s₈ c)
-past-substances c = past-size (c .before .before .before) ∙ simp (substances-are (c .before) ∙ not-false _ (c .if8 .left))
+-- the length that the header asks for
+asked : (c : tie.After-length-of) → c .length-of .result ≡ lengthOf (headerOf (s (h₆ (c .before))))
+asked c = let h = h₆ (c .before) in of-header h (λ x. c .length-of .result ≡ lengthOf x) (c .length-of .ensures)
+
+read : (c : tie.After-length-of) → lengthField (s (h₆ (c .before))) ≡ h₆ (c .before) .before .before .big-endian2 .result
+read c = length-is (h₆ (c .before) .before .before)
 
 -- the returns, each at the first check that fails, and behind the last
 returns : tie.Need-returns
-unfolding refusalOf
 returns c = simp (lt-leb _ _ (c .if1 .taken))
 
 returns-2 : tie.Need-returns-2
-unfolding refusalOf
-returns-2 c = simp (le-leb 5 (length (s₁ (c .before .before))) (c .before .before .if1 .left), ne-eqb _ _ (λ e. c .if2 .taken (sym (length-is (c .before)) ∙ e)))
+returns-2 c =
+    let e = c .before .before in
+    simp (le-leb 5 (length (s₁ e)) (e .if1 .left), ne-eqb _ _ (λ x. c .if2 .taken (sym (length-is (c .before)) ∙ x)))
 
 returns-3 : tie.Need-returns-3
-returns-3 c = sym (past-envelope (c .before .before) ∙ simp (ne-eqb _ _ (c .if3 .taken)))
+returns-3 c = sym (past-envelope (c .before .before) ∙ simp (ne-eqb _ _ (of-header (c .before .before) (λ h. h .version ≡ 1 → ⊥) (c .if3 .taken))))
 
 returns-4 : tie.Need-returns-4
-returns-4 c = sym (past-version (c .before .before) ∙ simp (lt-leb _ _ (c .if4 .taken)))
+returns-4 c = sym (past-version (c .before .before) ∙ simp (lt-leb _ _ (of-header (h₃ (c .before .before)) (λ h. 2 < h .perturbation) (c .if4 .taken))))
 
 returns-5 : tie.Need-returns-5
-returns-5 c = sym (past-perturbation (c .before .before) ∙ simp (lt-leb _ _ (c .if5 .taken)))
+returns-5 c = sym (past-perturbation (c .before .before) ∙ simp (lt-leb _ _ (of-header (h₄ (c .before .before)) (λ h. h .n < 1) (c .if5 .taken))))
 
 returns-6 : tie.Need-returns-6
-returns-6 c = sym (past-perturbation (c .before .before .before) ∙ simp (le-leb _ _ (c .before .if5 .left), lt-leb _ _ (c .if6 .taken)))
+returns-6 c =
+    let five = c .before .before in
+    sym
+    (past-perturbation (five .before .before)
+    ∙ simp (le-leb _ _ (some five), lt-leb _ _ (of-header (h₅ five) (λ h. 8 < h .n) (c .if6 .taken))))
 
 returns-7 : tie.Need-returns-7
-returns-7 c =
-    sym
-    (past-components (c .before .before)
-    ∙ simp (ne-eqb _ _ (λ e. c .if7 .taken (sym (length-is (read (c .before .before))) ∙ e ∙ sym (c .before .length-of .ensures)))))
+returns-7 c = sym (past-components (c .before .before) ∙ simp (ne-eqb _ _ (λ x. c .if7 .taken (sym (read (c .before)) ∙ x ∙ sym (asked (c .before))))))
 
 returns-8 : tie.Need-returns-8
-returns-8 c = sym (past-size (c .before .before .before) ∙ simp (substances-are (c .before) ∙ not-true _ (c .if8 .taken)))
+returns-8 c = sym (past-components (c .before .before) ∙ simp (eq-eqb _ _ (read (c .before) ∙ c .if7 .left ∙ asked (c .before))))
 
-returns-9 : tie.Need-returns-9
-returns-9 c = sym (past-substances (c .before .before .before) ∙ simp (state-is (c .before) ∙ not-true _ (c .if9 .taken)))
-
-returns-10 : tie.Need-returns-10
-returns-10 c = sym (past-substances (c .before .before .before) ∙ simp (state-is (c .before) ∙ not-false _ (c .if9 .left)))
-
-substances-inside-requires : tie.Need-substances-inside-requires
-unfolding mixtureOf
-substances-inside-requires c κs = rw (c .mixture-of .ensures) (omega arith)
-
-pub refusal-spec : {M : Type 1} → statement M
-refusal-spec =
+pub envelope-spec : {M : Type 1} → statement M
+envelope-spec =
     tie.close
     (tie.spec
     returns
     (λ c κs. search needs)
     (λ c. search needs)
     returns-2
-    (λ c. search needs)
+    (λ c κs. search needs)
     returns-3
-    (λ c. search needs)
     returns-4
-    (λ c. search needs)
-    (λ c. omega (arith, c .shared-slice-known4 .given 4))
     returns-5
     returns-6
     (λ c κs. search needs)
     returns-7
-    (λ c κs. search needs)
-    substances-inside-requires
-    returns-8
-    (λ c κs. search needs)
-    (λ c κs. search needs)
-    returns-9
-    returns-10)
+    returns-8)

@@ -1,7 +1,7 @@
 -- The two comparisons are the definition's.
 use mathlib.Core.Path.{refl}
-use Rattle.case_record.proofs.checks.inside.Statement.{statement}
-use Rattle.case_record.proofs.checks.inside.Tie as tie
+use Rattle.checks.proofs.inside.Statement.{statement}
+use Rattle.checks.proofs.inside.Tie as tie
 
 returns : tie.Need-returns
 returns c = refl

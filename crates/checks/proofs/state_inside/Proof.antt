@@ -3,16 +3,16 @@ use mathlib.Core.Path.{_≡_}
 use native.Mathlib.Omega.{arith}
 use borrow.Author.Needs.{needs}
 use lib.ListN.{length}
-use Rattle.case_record.specs.Checks.{state}
-use Rattle.case_record.proofs.checks.state_inside.Statement.{statement}
-use Rattle.case_record.proofs.checks.state_inside.Tie as tie
+use Rattle.checks.specs.Checks.{stateInside}
+use Rattle.checks.proofs.state_inside.Statement.{statement}
+use Rattle.checks.proofs.state_inside.Tie as tie
 
 -- the state's arrays
 sizes : (c : tie.Start) → (length (c .args .t .«partial_density») ≡ 8) × (length (c .args .t .molefracs) ≡ 8)
 sizes c = (search needs, search needs)
 
 returns : tie.Need-returns
-unfolding state
+unfolding stateInside
 returns c =
     simp
     (c .inside2 .ensures, c .before .sum .ensures, c .before .before .before .all-inside2 .ensures, c .before .before .before .before .before .all-inside .ensures, c .before .before .before .before .before .before .before .inside .ensures)

@@ -3,9 +3,9 @@ use mathlib.Core.Path.{_≡_}
 use native.Mathlib.Omega.{arith}
 use borrow.Author.Needs.{needs}
 use lib.ListN.{length}
-use Rattle.case_record.specs.Checks.{substances}
-use Rattle.case_record.proofs.checks.substances_inside.Statement.{statement}
-use Rattle.case_record.proofs.checks.substances_inside.Tie as tie
+use Rattle.checks.specs.Checks.{substancesInside}
+use Rattle.checks.proofs.substances_inside.Statement.{statement}
+use Rattle.checks.proofs.substances_inside.Tie as tie
 
 -- the mixture's arrays
 sizes : (c : tie.Start) → let m = c .args .m in
@@ -13,7 +13,7 @@ sizes : (c : tie.Start) → let m = c .args .m in
 sizes c = (search needs, search needs, search needs, search needs, search needs)
 
 returns : tie.Need-returns
-unfolding substances
+unfolding substancesInside
 returns c =
     simp
     (c .all-inside5 .ensures, c .before .before .pairs .ensures .0, c .before .before .before .all-inside4 .ensures, c .before .before .before .before .before .all-inside3 .ensures, c .before .before .before .before .before .before .before .all-inside2 .ensures, c .before .before .before .before .before .before .before .before .before .all-inside .ensures)

@@ -1,0 +1,3 @@
+-- What follows from checks that pass, and examples.
+pub mod Accepted
+pub mod Examples
