@@ -9,17 +9,18 @@ use Rattle.arithmetic.specs.Value.{value, Within}
 use Rattle.range.specs.declared.basic.Range.{Range}
 use Rattle.range.specs.Exact.{Choices, Reading, exact}
 use Rattle.uvtheory.specs.Contributions.{Contributions}
-use Rattle.eos.specs.Sent.{contributions}
+use Rattle.uvtheory.specs.Inputs.{state}
+use Rattle.eos.specs.Contributions.{contributions}
 use Rattle.case_record.specs.declared.case.Case.{Case}
 use Rattle.case_record.specs.Record.{caseOf}
 use Rattle.answer.specs.declared.Answer.the-variants.{Energies}
-use Rattle.noddyfir.specs.declared.call.Kind.the-variants.{Energies as ForEnergies}
-use Rattle.noddyfir.specs.Call.{answerOf}
+use Rattle.calls.specs.declared.kinds.Kind.the-variants.{Energies as ForEnergies}
+use Rattle.calls.specs.Answers.{answerOf}
 
 -- "Exact reading. It is fed the record's inputs, each double as the fraction it is, and gives three fractions, one for each energy.": the same formulas as of the energies, in
 -- fractions, for all choices of the roots
 abbrev pub readingOf : Case → Contributions Reading
-readingOf c = contributions exact (c .perturbation) (c .mixture) (c .state)
+readingOf c = contributions exact (c .perturbation) (c .mixture) (state exact (c .state))
 
 -- of the ends and the ported value of one energy, and a reading of it: the reading has a result q; it lies between the ends; and the ported value and q are apart by at most upper less
 -- lower

@@ -1,9 +1,10 @@
 -- By what the test of the three energies says.
 use mathlib.Core.Path.{_∙_}
 use borrow.Author.Needs.{needs}
-use Rattle.noddyfir.proofs.Answers.{ends-worked, no-ends}
-use Rattle.noddyfir.proofs.call.ends_of.Statement.{statement}
-use Rattle.noddyfir.proofs.call.ends_of.Tie as tie
+use Rattle.calls.specs.declared.kinds.Kind.the-variants.{Ends as ForEnds}
+use Rattle.calls.proofs.Answers.{ends-worked, not-all-finite}
+use Rattle.calls.proofs.kinds.ends_of.Statement.{statement}
+use Rattle.calls.proofs.kinds.ends_of.Tie as tie
 
 returns : tie.Need-returns
 returns c =
@@ -13,7 +14,7 @@ returns c =
 returns-2 : tie.Need-returns-2
 returns-2 c =
     let b = c .before in
-    no-ends (b .before .before .before .before .args .c) (b .before .contributions .ensures) (b .are-finite .ensures) (c .if1 .left)
+    not-all-finite (b .before .before .before .before .args .c) (b .before .contributions .ensures) (b .are-finite .ensures) ForEnds (c .if1 .left)
 
 pub ends-of-spec : {M : Type 1} → statement M
 ends-of-spec = tie.close (tie.spec (λ c κs. search needs) (λ c κs. tt) (λ c κs. search needs) returns returns-2)

@@ -1,9 +1,9 @@
 -- By what the tests of both halves, and of the values, say.
 use mathlib.Core.Path.{_≡_}
 use borrow.Author.Needs.{needs}
-use Rattle.noddyfir.proofs.Answers.{all-sloped, slope-fails, value-fails}
-use Rattle.noddyfir.proofs.call.slopes_of.Statement.{statement}
-use Rattle.noddyfir.proofs.call.slopes_of.Tie as tie
+use Rattle.calls.proofs.Answers.{all-sloped, slope-fails, value-fails}
+use Rattle.calls.proofs.kinds.slopes_of.Statement.{statement}
+use Rattle.calls.proofs.kinds.slopes_of.Tie as tie
 
 returns : tie.Need-returns
 returns c =

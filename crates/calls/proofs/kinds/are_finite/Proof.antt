@@ -1,5 +1,5 @@
-use Rattle.noddyfir.proofs.call.are_finite.Statement.{statement}
-use Rattle.noddyfir.proofs.call.are_finite.Tie as tie
+use Rattle.calls.proofs.kinds.are_finite.Statement.{statement}
+use Rattle.calls.proofs.kinds.are_finite.Tie as tie
 
 returns : tie.Need-returns
 returns c = rw (c .before .before .is-finite .ensures, c .before .is-finite2 .ensures, c .is-finite3 .ensures)

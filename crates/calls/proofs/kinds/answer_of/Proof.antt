@@ -6,10 +6,10 @@ use Rattle.case_record.specs.Record.{mixtureOf}
 use Rattle.case_record.specs.Checks.{refusalOf}
 use Rattle.case_record.proofs.Accepted.{whole}
 use Rattle.answer.specs.declared.Answer.the-variants.{Refused}
-use Rattle.noddyfir.specs.Call.{energiesOf, endsOf, slopesOf}
-use Rattle.noddyfir.proofs.Answers.{accepted, refused}
-use Rattle.noddyfir.proofs.call.answer_of.Statement.{statement}
-use Rattle.noddyfir.proofs.call.answer_of.Tie as tie
+use Rattle.calls.specs.Answers.{energiesOf, endsOf, slopesOf}
+use Rattle.calls.proofs.Answers.{accepted, refused}
+use Rattle.calls.proofs.kinds.answer_of.Statement.{statement}
+use Rattle.calls.proofs.kinds.answer_of.Tie as tie
 
 -- behind the test
 passes : (c : tie.Else1) → refusalOf (c .before .before .before .args .«record» .now) ≡ 0

@@ -3,9 +3,9 @@ use mathlib.Core.Bool.{_&&_}
 use mathlib.Core.Path.{_≡_}
 use borrow.Author.Needs.{needs}
 use Rattle.range.specs.Rules.{ok}
-use Rattle.noddyfir.proofs.Answers.{all-ok, not-all-ok}
-use Rattle.noddyfir.proofs.call.ranges_of.Statement.{statement}
-use Rattle.noddyfir.proofs.call.ranges_of.Tie as tie
+use Rattle.calls.proofs.Answers.{all-ok, not-all-ok}
+use Rattle.calls.proofs.kinds.ranges_of.Statement.{statement}
+use Rattle.calls.proofs.kinds.ranges_of.Tie as tie
 
 returns : tie.Need-returns
 returns c =
