@@ -8,7 +8,8 @@ use Rattle.uvtheory.specs.declared.parameters.Mixture.{Mixture}
 use Rattle.uvtheory.specs.declared.parameters.State.{State as Sent}
 use Rattle.uvtheory.specs.Eos.{residual-helmholtz-energy-contributions}
 use Rattle.uvtheory.specs.Parameters.{State}
-use Rattle.uvtheory.specs.Rows.{row, place, parameters}
+use Rattle.uvtheory.specs.Rows.{row, place}
+use Rattle.uvtheory.specs.Inputs.{parameters}
 use Rattle.uvtheory.proofs.Kept.{Related, contributions-kept}
 use Rattle.eos.specs.Sent.{contributions}
 

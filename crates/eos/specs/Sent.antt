@@ -5,7 +5,7 @@ use Rattle.uvtheory.specs.declared.parameters.Mixture.{Mixture}
 use Rattle.uvtheory.specs.declared.parameters.State.{State}
 use Rattle.uvtheory.specs.Contributions.{Contributions}
 use Rattle.uvtheory.specs.Eos.{residual-helmholtz-energy-contributions}
-use Rattle.uvtheory.specs.Rows.{parameters, state}
+use Rattle.uvtheory.specs.Inputs.{parameters, state}
 
 unfoldable pub contributions : (A : Arithmetic) → ℕ → Mixture → State → Contributions (A .Value)
 contributions A perturbation m s = residual-helmholtz-energy-contributions A perturbation (parameters A m) (state A s)

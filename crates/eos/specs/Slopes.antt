@@ -8,7 +8,8 @@ use Rattle.uvtheory.specs.declared.parameters.State.{State as Sent}
 use Rattle.uvtheory.specs.Contributions.{Contributions}
 use Rattle.uvtheory.specs.Eos.{residual-helmholtz-energy-contributions}
 use Rattle.uvtheory.specs.Parameters.{State}
-use Rattle.uvtheory.specs.Rows.{row, parameters}
+use Rattle.uvtheory.specs.Rows.{row}
+use Rattle.uvtheory.specs.Inputs.{parameters}
 
 module _ (H : Halves) where
   -- "Each partial density starts with the slope of its own fraction."; "with temperature and fractions fixed"

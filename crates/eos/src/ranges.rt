@@ -7,7 +7,7 @@ use uvtheory_range::parameters::constants;
 ghost use mathlib.Core.Path.{_≡_};
 ghost use Prim.Native.Nat.{_≤_};
 ghost use Rattle.range.specs.Rules.{ranges};
-ghost use Rattle.uvtheory.specs.Rows.{state};
+ghost use Rattle.uvtheory.specs.Inputs.{state};
 ghost use Rattle.uvtheory_range.specs.Held.{ContributionsOf};
 ghost use Rattle.uvtheory_range.specs.Rows as Held;
 ghost use Rattle.eos.specs.Sent.{contributions};

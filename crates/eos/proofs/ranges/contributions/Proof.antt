@@ -5,7 +5,7 @@ use Rattle.range.specs.declared.basic.Range.{Range}
 use Rattle.range.specs.Rules.{ranges}
 use Rattle.uvtheory.specs.Eos.{residual-helmholtz-energy-contributions}
 use Rattle.uvtheory.specs.Parameters.{State}
-use Rattle.uvtheory.specs.Rows.{parameters}
+use Rattle.uvtheory.specs.Inputs.{parameters}
 use Rattle.uvtheory.specs.Bh as Bh
 use Rattle.uvtheory.specs.Wca as Wca
 use Rattle.uvtheory_range.specs.Held.{ContributionsOf}

@@ -5,7 +5,7 @@ use Rattle.dual.specs.declared.basic.Dual.{Dual}
 use Rattle.dual.specs.Rules.{guardedSlopes}
 use Rattle.uvtheory.specs.Eos.{residual-helmholtz-energy-contributions}
 use Rattle.uvtheory.specs.Parameters.{State}
-use Rattle.uvtheory.specs.Rows.{parameters}
+use Rattle.uvtheory.specs.Inputs.{parameters}
 use Rattle.uvtheory.specs.Bh as Bh
 use Rattle.uvtheory.specs.Wca as Wca
 use Rattle.uvtheory_dual.specs.Held.{ContributionsOf}

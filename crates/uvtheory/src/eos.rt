@@ -1,0 +1,6 @@
+// uvtheory/eos/mod.rs: which perturbation.
+pub enum Perturbation {
+    BarkerHenderson,
+    WeeksChandlerAndersen,
+    WeeksChandlerAndersenB3,
+}
