@@ -1,5 +1,4 @@
--- The choice of a perturbation, and what the contributions of every mixture as sent keep.
-mod Choice
+-- What the contributions of a mixture keep, on every state.
 pub mod Sent
 pub mod Agreement
 pub mod Sloped

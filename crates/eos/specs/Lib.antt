@@ -1,3 +1,3 @@
--- The contributions of a mixture in a state, as sent, and with slopes.
-pub mod Sent
+-- The contributions of a mixture on any state, and the state whose densities start with slopes.
+pub mod Contributions
 pub mod Slopes

@@ -1,5 +1,6 @@
 // uvtheory/eos/mod.rs on ranges: the contributions of a perturbation.
 use range::basic::Range;
+use uvtheory::eos::Perturbation;
 use uvtheory::parameters::Mixture;
 use uvtheory::parameters::State;
 use uvtheory_range::contributions::Contributions;
@@ -7,13 +8,13 @@ use uvtheory_range::parameters::constants;
 ghost use mathlib.Core.Path.{_≡_};
 ghost use Prim.Native.Nat.{_≤_};
 ghost use Rattle.range.specs.Rules.{ranges};
-ghost use Rattle.uvtheory.specs.Rows.{state};
+ghost use Rattle.uvtheory.specs.Inputs.{state};
 ghost use Rattle.uvtheory_range.specs.Held.{ContributionsOf};
 ghost use Rattle.uvtheory_range.specs.Rows as Held;
-ghost use Rattle.eos.specs.Sent.{contributions};
+ghost use Rattle.eos.specs.Contributions.{contributions};
 
 // The state as sent.
-fn sent(s: State) -> uvtheory_range::parameters::State
+pub fn sent(s: State) -> uvtheory_range::parameters::State
     ensures { λ r. ⌜ Held.state r ≡ state ranges s ⌝ }
 {
     let d = s.partial_density;
@@ -28,16 +29,24 @@ fn sent(s: State) -> uvtheory_range::parameters::State
     }
 }
 
-pub fn contributions(perturbation: u8, m: Mixture, s: State) -> Contributions
+// Of a mixture as sent, on any state.
+pub fn contributions(
+    perturbation: Perturbation,
+    m: Mixture,
+    s: uvtheory_range::parameters::State,
+) -> Contributions
     requires { ⌜ m .n ≤ 8 ⌝ }
-    ensures { λ r. ⌜ ContributionsOf r (contributions ranges perturbation m s) ⌝ }
+    ensures { λ r. ⌜ ContributionsOf r (contributions ranges perturbation m (Held.state s)) ⌝ }
 {
-    let s = sent(s);
-    if perturbation == 0 {
-        return uvtheory_range_bh::residual_helmholtz_energy_contributions(m, s);
+    match perturbation {
+        Perturbation::BarkerHenderson => {
+            uvtheory_range_bh::residual_helmholtz_energy_contributions(m, s)
+        }
+        Perturbation::WeeksChandlerAndersen => {
+            uvtheory_range_wca::residual_helmholtz_energy_contributions(m, s)
+        }
+        Perturbation::WeeksChandlerAndersenB3 => {
+            uvtheory_range_b3::residual_helmholtz_energy_contributions_b3(m, s)
+        }
     }
-    if perturbation == 1 {
-        return uvtheory_range_wca::residual_helmholtz_energy_contributions(m, s);
-    }
-    uvtheory_range_b3::residual_helmholtz_energy_contributions_b3(m, s)
 }

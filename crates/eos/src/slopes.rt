@@ -1,15 +1,17 @@
 // uvtheory/eos/mod.rs on values with slopes: the contributions of a perturbation.
 use dual::basic::Dual;
+use uvtheory::eos::Perturbation;
 use uvtheory::parameters::Mixture;
 use uvtheory::parameters::State;
 use uvtheory_dual::contributions::Contributions;
 use uvtheory_dual::parameters::constants;
 ghost use mathlib.Core.Path.{_≡_};
 ghost use Prim.Native.Nat.{_≤_};
-ghost use Rattle.dual.specs.Rules.{plain, start};
+ghost use Rattle.dual.specs.Rules.{plain, start, guardedSlopes};
 ghost use Rattle.uvtheory.specs.Rows.{row};
 ghost use Rattle.uvtheory_dual.specs.Held.{ContributionsOf};
 ghost use Rattle.uvtheory_dual.specs.Rows as Held;
+ghost use Rattle.eos.specs.Contributions.{contributions};
 ghost use Rattle.eos.specs.Slopes as Slopes;
 
 // Each of eight densities with the slope of its own fraction.
@@ -53,8 +55,8 @@ fn starts(d: [f64; 8], x: [f64; 8]) -> [Dual; 8]
 }
 
 // The state as sent, its densities with their slopes.
-fn started(s: State) -> uvtheory_dual::parameters::State
-    ensures { λ r. ⌜ Held.state r ≡ Slopes.state plain s ⌝ }
+pub fn started(s: State) -> uvtheory_dual::parameters::State
+    ensures { λ r. ⌜ Held.state r ≡ Slopes.started plain s ⌝ }
 {
     let d = s.partial_density;
     let x = s.molefracs;
@@ -68,16 +70,24 @@ fn started(s: State) -> uvtheory_dual::parameters::State
     }
 }
 
-pub fn contributions(perturbation: u8, m: Mixture, s: State) -> Contributions
+// Of a mixture as sent, on any state.
+pub fn contributions(
+    perturbation: Perturbation,
+    m: Mixture,
+    s: uvtheory_dual::parameters::State,
+) -> Contributions
     requires { ⌜ m .n ≤ 8 ⌝ }
-    ensures { λ r. ⌜ ContributionsOf r (Slopes.contributions plain perturbation m s) ⌝ }
+    ensures { λ r. ⌜ ContributionsOf r (contributions guardedSlopes perturbation m (Held.state s)) ⌝ }
 {
-    let s = started(s);
-    if perturbation == 0 {
-        return uvtheory_dual_bh::residual_helmholtz_energy_contributions(m, s);
+    match perturbation {
+        Perturbation::BarkerHenderson => {
+            uvtheory_dual_bh::residual_helmholtz_energy_contributions(m, s)
+        }
+        Perturbation::WeeksChandlerAndersen => {
+            uvtheory_dual_wca::residual_helmholtz_energy_contributions(m, s)
+        }
+        Perturbation::WeeksChandlerAndersenB3 => {
+            uvtheory_dual_b3::residual_helmholtz_energy_contributions_b3(m, s)
+        }
     }
-    if perturbation == 1 {
-        return uvtheory_dual_wca::residual_helmholtz_energy_contributions(m, s);
-    }
-    uvtheory_dual_b3::residual_helmholtz_energy_contributions_b3(m, s)
 }

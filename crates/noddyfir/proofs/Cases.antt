@@ -23,8 +23,14 @@ use Rattle.noddyfir.specs.Run.{Outcome, runFrom, runOf}
 -- "combining (rep 9, 16; att 6, 6; sigma 3, 4; epsilon_k 100, 400; k 0.25)"
 abbrev mixture : UVTheoryPars (doubles .Value)
 mixture =
-    new doubles 2 (row (nearest 9 1 ∷ nearest 16 1 ∷ [])) (row (nearest 6 1 ∷ nearest 6 1 ∷ [])) (row (nearest 3 1 ∷ nearest 4 1 ∷ []))
-    (row (nearest 100 1 ∷ nearest 400 1 ∷ [])) (λ i j. nearest 1 4)
+    new doubles record {
+      n = 2;
+      rep = row (nearest 9 1 ∷ nearest 16 1 ∷ []);
+      att = row (nearest 6 1 ∷ nearest 6 1 ∷ []);
+      sigma = row (nearest 3 1 ∷ nearest 4 1 ∷ []);
+      epsilon-k = row (nearest 100 1 ∷ nearest 400 1 ∷ []);
+      k-ij = λ i j. nearest 1 4;
+    }
 
 -- "Input 00 00 00 03 01 00 00 (hexadecimal) gives 00 02 01 02 00 02 01 05, whole, from either": two records, both refused, in a buffer of 60 bytes
 abbrev sevenBytes : List ℕ

@@ -9,7 +9,8 @@ use Rattle.arithmetic.specs.Doubles.{guarded}
 use Rattle.uvtheory.specs.declared.parameters.Mixture.{Mixture}
 use Rattle.uvtheory.specs.declared.parameters.Combined.{Combined}
 use Rattle.uvtheory.specs.Parameters.{State}
-use Rattle.uvtheory.specs.Rows.{rowOf, matrixOf, RowOf, MatrixOf, row, matrix, Row, Matrix, parameters}
+use Rattle.uvtheory.specs.Rows.{rowOf, matrixOf, RowOf, MatrixOf, row, matrix, Row, Matrix}
+use Rattle.uvtheory.specs.Inputs.{parameters}
 use Rattle.uvtheory.specs.Held.{CombinedOf}
 use Rattle.uvtheory.specs.OneFluid as O
 use Rattle.uvtheory.specs.HardSphere as S

@@ -11,7 +11,8 @@ use Rattle.uvtheory.specs.Parameters.{combined}
 use Rattle.uvtheory.specs.declared.parameters.Mixture.{Mixture}
 use Rattle.uvtheory.specs.declared.parameters.Pair.{Pair}
 use Rattle.uvtheory.specs.declared.parameters.Combined.{Combined}
-use Rattle.uvtheory.specs.Rows.{row, MatrixOf, parameters}
+use Rattle.uvtheory.specs.Rows.{row, MatrixOf}
+use Rattle.uvtheory.specs.Inputs.{parameters}
 use Rattle.uvtheory.specs.Held.{PairOf, CombinedOf, SymmetricOf, Symmetric}
 use Rattle.uvtheory.proofs.Loops.{mirror}
 

@@ -1,12 +1,14 @@
 -- Every relation that the operations keep is kept by the three energies of each perturbation: the formulas, worked in `both`, are the proof.
-use Prim.Native.Nat.{ℕ, zero, suc}
+use Prim.Native.Nat.{ℕ}
 use mathlib.Core.Bool.{Bool, true, false, cond}
 use lib.Dec.{eqb, ltb}
 use Rattle.arithmetic.specs.Arithmetic.{Arithmetic}
 use Rattle.arithmetic.proofs.Both.{Both, bothOf, Kept, both}
+use Rattle.uvtheory.specs.declared.eos.Perturbation.{Perturbation}
+use Rattle.uvtheory.specs.declared.eos.Perturbation.the-variants.{BarkerHenderson, WeeksChandlerAndersen, WeeksChandlerAndersenB3}
 use Rattle.uvtheory.specs.Literals.{half, one, six}
 use Rattle.uvtheory.specs.Contributions.{Contributions}
-use Rattle.uvtheory.specs.Parameters.{UVTheoryPars, State, combined, new, mie-prefactor, mean-field-of, bh-coefficient, bh-coefficients}
+use Rattle.uvtheory.specs.Parameters.{UVTheoryParameters, UVTheoryPars, State, mapped, combined, new, mie-prefactor, mean-field-of, bh-coefficient, bh-coefficients}
 use Rattle.uvtheory.specs.HardSphere as S
 use Rattle.uvtheory.specs.PackingFraction as P
 use Rattle.uvtheory.specs.ReferenceEnergy as RE
@@ -40,33 +42,39 @@ module _ (A B : Arithmetic) (R : A .Value → B .Value → Type 0) (K : Kept A B
       go false false = h j i
 
   -- the parameters and the state of two meanings
-  module _ (n : ℕ) (rep att sigma epsilon-k : ℕ → Both R) (k-ij : ℕ → ℕ → Both R) where
+  module _ (p : UVTheoryParameters) where
     abbrev pars : UVTheoryPars (Both R)
-    pars = record {
-      n = n;
-      rep = rep;
-      att = att;
-      sigma = sigma;
-      epsilon-k = epsilon-k;
-      rep-ij = λ i j. bothOf R (combined-kept rep (λ i j. K .sqrt (K .mul (rep i .holds) (rep j .holds))) i j);
-      att-ij = λ i j. bothOf R (combined-kept att (λ i j. K .sqrt (K .mul (att i .holds) (att j .holds))) i j);
-      sigma-ij = λ i j. bothOf R (combined-kept sigma (λ i j. K .mul (K .constant half) (K .add (sigma i .holds) (sigma j .holds))) i j);
-      eps-k-ij = λ i j. bothOf R (combined-kept epsilon-k (λ i j. K .mul (K .sub (K .constant one) (k-ij i j .holds)) (K .sqrt (K .mul (epsilon-k i .holds) (epsilon-k j .holds)))) i j);
-      cd-bh-pure = λ i. bh-coefficients AB (rep i) (AB .constant six);
-    }
+    pars =
+        let rep : ℕ → Both R = λ i. AB .constant (p .rep i) in
+        let att : ℕ → Both R = λ i. AB .constant (p .att i) in
+        let sigma : ℕ → Both R = λ i. AB .constant (p .sigma i) in
+        let epsilon-k : ℕ → Both R = λ i. AB .constant (p .epsilon-k i) in
+        record {
+          n = p .n;
+          rep = rep;
+          att = att;
+          sigma = sigma;
+          epsilon-k = epsilon-k;
+          rep-ij = λ i j. bothOf R (combined-kept rep (λ i j. K .sqrt (K .mul (rep i .holds) (rep j .holds))) i j);
+          att-ij = λ i j. bothOf R (combined-kept att (λ i j. K .sqrt (K .mul (att i .holds) (att j .holds))) i j);
+          sigma-ij = λ i j. bothOf R (combined-kept sigma (λ i j. K .mul (K .constant half) (K .add (sigma i .holds) (sigma j .holds))) i j);
+          eps-k-ij = λ i j. bothOf R (combined-kept epsilon-k
+              (λ i j. K .mul (K .sub (K .constant one) (K .constant (p .k-ij i j))) (K .sqrt (K .mul (epsilon-k i .holds) (epsilon-k j .holds)))) i j);
+          cd-bh-pure = λ i. bh-coefficients AB (rep i) (AB .constant six);
+        }
 
     abbrev left : UVTheoryPars (A .Value)
-    left = new A n (λ i. rep i .left) (λ i. att i .left) (λ i. sigma i .left) (λ i. epsilon-k i .left) (λ i j. k-ij i j .left)
+    left = new A p
 
     abbrev right : UVTheoryPars (B .Value)
-    right = new B n (λ i. rep i .right) (λ i. att i .right) (λ i. sigma i .right) (λ i. epsilon-k i .right) (λ i j. k-ij i j .right)
+    right = new B p
 
     module _ (s : State (Both R)) where
       abbrev sl : State (A .Value)
-      sl = record { temperature = s .temperature .left; partial-density = λ i. s .partial-density i .left; molefracs = λ i. s .molefracs i .left }
+      sl = mapped (λ x. x .left) s
 
       abbrev sr : State (B .Value)
-      sr = record { temperature = s .temperature .right; partial-density = λ i. s .partial-density i .right; molefracs = λ i. s .molefracs i .right }
+      sr = mapped (λ x. x .right) s
 
       bh-sphere : R (Bh.residual-helmholtz-energy-contributions A left sl .hard-sphere) (Bh.residual-helmholtz-energy-contributions B right sr .hard-sphere)
       unfolding S.helmholtz-energy-density S.bmcsl S.weighted-zeta BhS.diameter-bh BhS.quarter-powers BhS.diameter-by bh-coefficient mie-prefactor mean-field-of
@@ -101,8 +109,8 @@ module _ (A B : Arithmetic) (R : A .Value → B .Value → Type 0) (K : Kept A B
       b3-attractive = (Wca.residual-helmholtz-energy-contributions-b3 AB pars s .attractive) .holds
 
       -- ---- whatever the perturbation
-      pub contributions-kept : (perturbation : ℕ) → Related (residual-helmholtz-energy-contributions A perturbation left sl) (residual-helmholtz-energy-contributions B perturbation right sr)
+      pub contributions-kept : (perturbation : Perturbation) → Related (residual-helmholtz-energy-contributions A perturbation left sl) (residual-helmholtz-energy-contributions B perturbation right sr)
       unfolding residual-helmholtz-energy-contributions
-      contributions-kept zero = record { hard-sphere-is = bh-sphere; reference-is = bh-reference; attractive-is = bh-attractive }
-      contributions-kept (suc zero) = record { hard-sphere-is = wca-sphere; reference-is = wca-reference; attractive-is = wca-attractive }
-      contributions-kept (suc (suc k)) = record { hard-sphere-is = wca-sphere; reference-is = b3-reference; attractive-is = b3-attractive }
+      contributions-kept BarkerHenderson = record { hard-sphere-is = bh-sphere; reference-is = bh-reference; attractive-is = bh-attractive }
+      contributions-kept WeeksChandlerAndersen = record { hard-sphere-is = wca-sphere; reference-is = wca-reference; attractive-is = wca-attractive }
+      contributions-kept WeeksChandlerAndersenB3 = record { hard-sphere-is = wca-sphere; reference-is = b3-reference; attractive-is = b3-attractive }

@@ -10,7 +10,8 @@ use Rattle.uvtheory.specs.declared.parameters.Pair.{Pair}
 use Rattle.uvtheory.specs.declared.parameters.Combined.{Combined}
 use Rattle.uvtheory.specs.declared.contributions.Contributions.{Contributions as Held}
 use Rattle.uvtheory.specs.Contributions.{Contributions}
-use Rattle.uvtheory.specs.Rows.{Matrix, parameters}
+use Rattle.uvtheory.specs.Rows.{Matrix}
+use Rattle.uvtheory.specs.Inputs.{parameters}
 
 pub record PairOf (m : Mixture) (i j : ℕ) (p : Pair) : Type 0 where
   pub rep-is : p .rep ≡ parameters guarded m .rep-ij i j

@@ -11,6 +11,7 @@ pub mod ReferenceEnergy
 pub mod OneFluid
 pub mod BetaEff
 pub mod Rows
+pub mod Inputs
 pub mod Held
 pub mod Bh
 pub mod Wca

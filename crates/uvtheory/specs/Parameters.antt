@@ -1,4 +1,4 @@
--- uvtheory/parameters.rs: the combined parameters of a mixture, and `mie_prefactor`, `mean_field_constant` and `bh_coefficients`.
+-- uvtheory/parameters.rs: the parameters of a mixture, as sent and combined, and `mie_prefactor`, `mean_field_constant` and `bh_coefficients`.
 use Prim.Native.Nat.{ℕ, zero, suc}
 use mathlib.Core.Bool.{cond}
 use lib.Dec.{ltb, eqb}
@@ -6,6 +6,15 @@ use lib.Ieee.{Float}
 use Rattle.arithmetic.specs.Arithmetic.{Arithmetic}
 use Rattle.uvtheory.specs.Literals.{half, one, three, six, seven, minusTwo}
 use Rattle.uvtheory.specs.Tables.{CD-BH}
+
+-- `UVTheoryParameters`: what is sent of a mixture. Doubles in every arithmetic, since parameters are taken as sent; `k-ij` is read for i below j.
+pub record UVTheoryParameters : Type 0 where
+  pub n : ℕ
+  pub rep : ℕ → Float
+  pub att : ℕ → Float
+  pub sigma : ℕ → Float
+  pub epsilon-k : ℕ → Float
+  pub k-ij : ℕ → ℕ → Float
 
 -- `UVTheoryPars`: functions of the component's number stand for vectors and matrices. `cd_bh_binary` is left out, since no energy reads it.
 pub record UVTheoryPars (X : Type 0) : Type 0 where
@@ -25,6 +34,10 @@ pub record State (X : Type 0) : Type 0 where
   pub temperature : X
   pub partial-density : ℕ → X
   pub molefracs : ℕ → X
+
+-- with f of each of its values: so a state of doubles enters an arithmetic
+abbrev pub mapped : {X Y : Type 0} → (X → Y) → State X → State Y
+mapped f s = record { temperature = f (s .temperature); partial-density = λ i. f (s .partial-density i); molefracs = λ i. f (s .molefracs i) }
 
 -- A matrix whose diagonal is given, and that is worked for i below j and copied.
 abbrev pub combined : {X : Type 0} → (ℕ → X) → (ℕ → ℕ → X) → ℕ → ℕ → X
@@ -65,16 +78,21 @@ module _ (A : Arithmetic) where
       bh-coefficient (mie-prefactor rep att) (constant one / am6 - inv-a76 att) rep att
 
   -- `UVTheoryPars::new`
-  abbrev pub new : ℕ → (ℕ → Value) → (ℕ → Value) → (ℕ → Value) → (ℕ → Value) → (ℕ → ℕ → Value) → UVTheoryPars Value
-  new n rep att sigma epsilon-k k-ij = record {
-    n = n;
-    rep = rep;
-    att = att;
-    sigma = sigma;
-    epsilon-k = epsilon-k;
-    rep-ij = combined rep (λ i j. sqrt (rep i * rep j));
-    att-ij = combined att (λ i j. sqrt (att i * att j));
-    sigma-ij = combined sigma (λ i j. constant half * (sigma i + sigma j));
-    eps-k-ij = combined epsilon-k (λ i j. (constant one - k-ij i j) * sqrt (epsilon-k i * epsilon-k j));
-    cd-bh-pure = λ i. bh-coefficients (rep i) (constant six);
-  }
+  abbrev pub new : UVTheoryParameters → UVTheoryPars Value
+  new p =
+      let rep : ℕ → Value = λ i. constant (p .rep i) in
+      let att : ℕ → Value = λ i. constant (p .att i) in
+      let sigma : ℕ → Value = λ i. constant (p .sigma i) in
+      let epsilon-k : ℕ → Value = λ i. constant (p .epsilon-k i) in
+      record {
+        n = p .n;
+        rep = rep;
+        att = att;
+        sigma = sigma;
+        epsilon-k = epsilon-k;
+        rep-ij = combined rep (λ i j. sqrt (rep i * rep j));
+        att-ij = combined att (λ i j. sqrt (att i * att j));
+        sigma-ij = combined sigma (λ i j. constant half * (sigma i + sigma j));
+        eps-k-ij = combined epsilon-k (λ i j. (constant one - constant (p .k-ij i j)) * sqrt (epsilon-k i * epsilon-k j));
+        cd-bh-pure = λ i. bh-coefficients (rep i) (constant six);
+      }

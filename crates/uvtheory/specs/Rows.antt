@@ -4,11 +4,7 @@ use mathlib.Core.Path.{_≡_}
 use mathlib.Core.List.{List}
 use lib.ListN.{getD}
 use lib.Ieee.{Float, nan}
-use Rattle.arithmetic.specs.Arithmetic.{Arithmetic}
-use Rattle.uvtheory.specs.declared.parameters.Mixture.{Mixture}
-use Rattle.uvtheory.specs.declared.parameters.State.{State as Sent}
 use Rattle.uvtheory.specs.declared.one_fluid.OneFluid.{OneFluid as Held}
-use Rattle.uvtheory.specs.Parameters.{UVTheoryPars, State, new}
 use Rattle.uvtheory.specs.OneFluid.{OneFluid}
 
 -- of any values; `none` is read past the end
@@ -46,14 +42,3 @@ place n i j = i * (2 * n - i - 1) / 2 + (j - i - 1)
 -- the properties of the one fluid, as the code holds them
 abbrev pub fluid : Held → OneFluid Float
 fluid o = record { rep = o .rep; att = o .att; sigma = o .sigma; weighted-sigma3-ij = o .«weighted_sigma3_ij»; epsilon-k = o .«epsilon_k»; d = o .d }
-
--- ---- the inputs, in any arithmetic
-module _ (A : Arithmetic) where
-  abbrev input : List Float → ℕ → A .Value
-  input xs i = A .constant (row xs i)
-
-  abbrev pub parameters : Mixture → UVTheoryPars (A .Value)
-  parameters m = new A (m .n) (input (m .rep)) (input (m .att)) (input (m .sigma)) (input (m .«epsilon_k»)) (λ i j. input (m .«k_ij») (place (m .n) i j))
-
-  abbrev pub state : Sent → State (A .Value)
-  state s = record { temperature = A .constant (s .temperature); partial-density = input (s .«partial_density»); molefracs = input (s .molefracs) }

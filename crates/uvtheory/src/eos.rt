@@ -1,5 +1,4 @@
-// uvtheory/eos/mod.rs: the perturbations.
-
+// uvtheory/eos/mod.rs: which perturbation.
 pub enum Perturbation {
     BarkerHenderson,
     WeeksChandlerAndersen,

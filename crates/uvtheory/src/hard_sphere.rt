@@ -6,7 +6,8 @@ use operations::basic::div;
 ghost use mathlib.Core.Path.{_≡_};
 ghost use Prim.Native.Nat.{_≤_};
 ghost use Rattle.arithmetic.specs.Doubles.{guarded};
-ghost use Rattle.uvtheory.specs.Rows.{row, state};
+ghost use Rattle.uvtheory.specs.Rows.{row};
+ghost use Rattle.uvtheory.specs.Inputs.{state};
 ghost use Rattle.uvtheory.specs.HardSphere as F;
 
 // The four zeta of the fractions.

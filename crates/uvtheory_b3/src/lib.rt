@@ -12,7 +12,7 @@ use uvtheory_wca::hard_sphere::component_lengths;
 use uvtheory_wca::hard_sphere::pair_lengths;
 ghost use Prim.Native.Nat.{_≤_};
 ghost use Rattle.arithmetic.specs.Doubles.{guarded};
-ghost use Rattle.uvtheory.specs.Rows.{parameters, state};
+ghost use Rattle.uvtheory.specs.Inputs.{parameters, state};
 ghost use Rattle.uvtheory.specs.Held.{ContributionsOf};
 ghost use Rattle.uvtheory.specs.Wca as F;
 

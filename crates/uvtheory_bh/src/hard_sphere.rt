@@ -8,7 +8,8 @@ use uvtheory::parameters::inv_a76;
 ghost use mathlib.Core.Path.{_≡_};
 ghost use Prim.Native.Nat.{_≤_};
 ghost use Rattle.arithmetic.specs.Doubles.{guarded};
-ghost use Rattle.uvtheory.specs.Rows.{row, Row, parameters};
+ghost use Rattle.uvtheory.specs.Rows.{row, Row};
+ghost use Rattle.uvtheory.specs.Inputs.{parameters};
 ghost use Rattle.uvtheory.specs.Bh.HardSphere as F;
 
 pub const BH_CONSTANTS_ETA_B: [[f64; 2]; 3] = [

@@ -11,7 +11,7 @@ use uvtheory::parameters::State;
 use uvtheory::parameters::combine;
 ghost use Prim.Native.Nat.{_≤_};
 ghost use Rattle.arithmetic.specs.Doubles.{guarded};
-ghost use Rattle.uvtheory.specs.Rows.{parameters, state};
+ghost use Rattle.uvtheory.specs.Inputs.{parameters, state};
 ghost use Rattle.uvtheory.specs.Held.{ContributionsOf};
 ghost use Rattle.uvtheory.specs.Bh as F;
 

@@ -6,7 +6,7 @@ use mathlib.Core.List.{List}
 use Rattle.dual.specs.declared.basic.Dual.{Dual}
 use Rattle.dual.specs.Rules.{guardedSlopes}
 use Rattle.uvtheory.specs.declared.parameters.Mixture.{Mixture}
-use Rattle.uvtheory.specs.Rows.{parameters}
+use Rattle.uvtheory.specs.Inputs.{parameters}
 use Rattle.uvtheory.specs.OneFluid as O
 use Rattle.uvtheory.proofs.Arrays.{matrix-at, virial-sum-of, one-fluid-is}
 use Rattle.uvtheory_dual.specs.declared.parameters.Combined.{Combined}

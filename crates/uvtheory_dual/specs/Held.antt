@@ -8,7 +8,7 @@ use Rattle.dual.specs.Rules.{guardedSlopes}
 use Rattle.uvtheory.specs.declared.parameters.Mixture.{Mixture}
 use Rattle.uvtheory.specs.Contributions.{Contributions}
 use Rattle.uvtheory.specs.Held.{SymmetricOf}
-use Rattle.uvtheory.specs.Rows.{parameters}
+use Rattle.uvtheory.specs.Inputs.{parameters}
 use Rattle.uvtheory_dual.specs.declared.parameters.Pair.{Pair}
 use Rattle.uvtheory_dual.specs.declared.parameters.Combined.{Combined}
 use Rattle.uvtheory_dual.specs.declared.contributions.Contributions.{Contributions as Held}

@@ -13,7 +13,7 @@ use uvtheory_wca::hard_sphere::WCA_CONSTANTS_ETA_A_UVB3;
 use uvtheory_wca::hard_sphere::WCA_CONSTANTS_ETA_B_UVB3;
 ghost use Prim.Native.Nat.{_≤_};
 ghost use Rattle.dual.specs.Rules.{guardedSlopes};
-ghost use Rattle.uvtheory.specs.Rows.{parameters};
+ghost use Rattle.uvtheory.specs.Inputs.{parameters};
 ghost use Rattle.uvtheory.specs.Wca as F;
 ghost use Rattle.uvtheory_dual.specs.Rows.{state};
 ghost use Rattle.uvtheory_dual.specs.Held.{ContributionsOf};

@@ -25,7 +25,7 @@ ghost use mathlib.Core.Path.{_≡_};
 ghost use Prim.Native.Nat.{_≤_, _<_};
 ghost use Rattle.dual.specs.Rules.{guardedSlopes};
 ghost use Rattle.uvtheory.specs.Rows as Doubles;
-ghost use Rattle.uvtheory.specs.Rows.{parameters};
+ghost use Rattle.uvtheory.specs.Inputs.{parameters};
 ghost use Rattle.uvtheory.specs.Bh.HardSphere.{diameter-bh};
 ghost use Rattle.uvtheory.specs.Bh.AttractivePerturbation as F;
 ghost use Rattle.uvtheory_dual.specs.Rows.{row, matrix, fluid, Row, Matrix, state};

@@ -11,7 +11,7 @@ ghost use Prim.Native.Nat.{_≤_};
 ghost use Rattle.dual.specs.Rules.{guardedSlopes};
 ghost use Rattle.uvtheory.specs.Literals as N;
 ghost use Rattle.uvtheory.specs.Parameters as P;
-ghost use Rattle.uvtheory.specs.Rows.{parameters};
+ghost use Rattle.uvtheory.specs.Inputs.{parameters};
 ghost use Rattle.uvtheory.specs.Bh.HardSphere as F;
 ghost use Rattle.uvtheory_dual.specs.Rows.{Row};
 

@@ -12,7 +12,7 @@ use uvtheory_dual::parameters::State;
 use uvtheory_dual::parameters::combine;
 ghost use Prim.Native.Nat.{_≤_};
 ghost use Rattle.dual.specs.Rules.{guardedSlopes};
-ghost use Rattle.uvtheory.specs.Rows.{parameters};
+ghost use Rattle.uvtheory.specs.Inputs.{parameters};
 ghost use Rattle.uvtheory.specs.Bh as F;
 ghost use Rattle.uvtheory_dual.specs.Rows.{state};
 ghost use Rattle.uvtheory_dual.specs.Held.{ContributionsOf};

@@ -15,7 +15,7 @@ ghost use mathlib.Core.Path.{_≡_};
 ghost use Prim.Native.Nat.{_≤_, _<_};
 ghost use Rattle.arithmetic.specs.Sums.{pairs};
 ghost use Rattle.dual.specs.Rules.{guardedSlopes};
-ghost use Rattle.uvtheory.specs.Rows.{parameters};
+ghost use Rattle.uvtheory.specs.Inputs.{parameters};
 ghost use Rattle.uvtheory.specs.Bh.HardSphere.{diameter-bh};
 ghost use Rattle.uvtheory.specs.Bh.ReferencePerturbation as F;
 ghost use Rattle.uvtheory_dual.specs.Rows.{constants, row, matrix, Row, state};

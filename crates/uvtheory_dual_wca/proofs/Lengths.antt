@@ -3,7 +3,7 @@
 use Rattle.dual.specs.declared.basic.Dual.{Dual}
 use Rattle.dual.specs.Rules.{guardedSlopes}
 use Rattle.uvtheory.specs.declared.parameters.Mixture.{Mixture}
-use Rattle.uvtheory.specs.Rows.{parameters}
+use Rattle.uvtheory.specs.Inputs.{parameters}
 use Rattle.uvtheory.specs.Wca.HardSphere.{rm-of, dimensionless-diameter-q-wca}
 use Rattle.uvtheory.proofs.Combined.{flip}
 use Rattle.uvtheory_wca.proofs.Lengths.{worked-from-two, symmetric-from-two, worked-from-three, symmetric-from-three}

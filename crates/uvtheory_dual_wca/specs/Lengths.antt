@@ -3,7 +3,7 @@
 use Rattle.dual.specs.declared.basic.Dual.{Dual}
 use Rattle.dual.specs.Rules.{guardedSlopes}
 use Rattle.uvtheory.specs.declared.parameters.Mixture.{Mixture}
-use Rattle.uvtheory.specs.Rows.{parameters}
+use Rattle.uvtheory.specs.Inputs.{parameters}
 use Rattle.uvtheory.specs.Wca.HardSphere.{rm-of, diameter-wca, dimensionless-length-scale, dimensionless-diameter-q-wca}
 use Rattle.uvtheory_dual_wca.specs.declared.hard_sphere.ComponentLengths.{ComponentLengths}
 use Rattle.uvtheory_dual_wca.specs.declared.hard_sphere.LengthTables.{LengthTables}

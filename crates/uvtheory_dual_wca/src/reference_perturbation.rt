@@ -17,7 +17,7 @@ ghost use Rattle.arithmetic.specs.Sums.{pairs};
 ghost use Rattle.dual.specs.Rules.{guardedSlopes};
 ghost use Rattle.uvtheory.specs.Literals as N;
 ghost use Rattle.uvtheory.specs.Tables.{table};
-ghost use Rattle.uvtheory.specs.Rows.{parameters};
+ghost use Rattle.uvtheory.specs.Inputs.{parameters};
 ghost use Rattle.uvtheory.specs.Wca.ReferencePerturbation as F;
 ghost use Rattle.uvtheory_dual.specs.Rows.{row, matrix, state};
 ghost use Rattle.uvtheory_dual.specs.Held.{CombinedOf};

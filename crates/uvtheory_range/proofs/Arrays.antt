@@ -5,7 +5,7 @@ use mathlib.Core.List.{List}
 use Rattle.range.specs.declared.basic.Range.{Range}
 use Rattle.range.specs.Rules.{ranges}
 use Rattle.uvtheory.specs.declared.parameters.Mixture.{Mixture}
-use Rattle.uvtheory.specs.Rows.{parameters}
+use Rattle.uvtheory.specs.Inputs.{parameters}
 use Rattle.uvtheory.specs.OneFluid as O
 use Rattle.uvtheory.proofs.Arrays.{matrix-at, virial-sum-of, one-fluid-is}
 use Rattle.uvtheory_range.specs.declared.parameters.Combined.{Combined}

@@ -3,7 +3,7 @@ use Prim.Native.Nat.{ℕ, _<_}
 use mathlib.Core.Path.{_≡_, subst}
 use Rattle.uvtheory.specs.declared.parameters.Mixture.{Mixture}
 use Rattle.range.specs.Rules.{ranges}
-use Rattle.uvtheory.specs.Rows.{parameters}
+use Rattle.uvtheory.specs.Inputs.{parameters}
 use Rattle.uvtheory.proofs.Combined.{itself, flip, symmetric}
 use Rattle.uvtheory_range.specs.declared.parameters.Pair.{Pair}
 use Rattle.uvtheory_range.specs.declared.parameters.Combined.{Combined}

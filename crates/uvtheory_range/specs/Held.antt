@@ -7,7 +7,7 @@ use Rattle.range.specs.Rules.{ranges}
 use Rattle.uvtheory.specs.declared.parameters.Mixture.{Mixture}
 use Rattle.uvtheory.specs.Contributions.{Contributions}
 use Rattle.uvtheory.specs.Held.{SymmetricOf}
-use Rattle.uvtheory.specs.Rows.{parameters}
+use Rattle.uvtheory.specs.Inputs.{parameters}
 use Rattle.uvtheory_range.specs.declared.parameters.Pair.{Pair}
 use Rattle.uvtheory_range.specs.declared.parameters.Combined.{Combined}
 use Rattle.uvtheory_range.specs.declared.contributions.Contributions.{Contributions as Held}

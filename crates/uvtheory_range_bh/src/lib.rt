@@ -11,7 +11,7 @@ use uvtheory_range::parameters::State;
 use uvtheory_range::parameters::combine;
 ghost use Prim.Native.Nat.{_≤_};
 ghost use Rattle.range.specs.Rules.{ranges};
-ghost use Rattle.uvtheory.specs.Rows.{parameters};
+ghost use Rattle.uvtheory.specs.Inputs.{parameters};
 ghost use Rattle.uvtheory.specs.Bh as F;
 ghost use Rattle.uvtheory_range.specs.Rows.{state};
 ghost use Rattle.uvtheory_range.specs.Held.{ContributionsOf};

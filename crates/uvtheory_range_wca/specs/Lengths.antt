@@ -2,7 +2,7 @@
 use Rattle.range.specs.declared.basic.Range.{Range}
 use Rattle.range.specs.Rules.{ranges}
 use Rattle.uvtheory.specs.declared.parameters.Mixture.{Mixture}
-use Rattle.uvtheory.specs.Rows.{parameters}
+use Rattle.uvtheory.specs.Inputs.{parameters}
 use Rattle.uvtheory.specs.Wca.HardSphere.{rm-of, diameter-wca, dimensionless-length-scale, dimensionless-diameter-q-wca}
 use Rattle.uvtheory_range_wca.specs.declared.hard_sphere.ComponentLengths.{ComponentLengths}
 use Rattle.uvtheory_range_wca.specs.declared.hard_sphere.LengthTables.{LengthTables}

@@ -14,7 +14,7 @@ use uvtheory_wca::hard_sphere::WCA_CONSTANTS_ETA_A;
 use uvtheory_wca::hard_sphere::WCA_CONSTANTS_ETA_B;
 ghost use Prim.Native.Nat.{_≤_};
 ghost use Rattle.range.specs.Rules.{ranges};
-ghost use Rattle.uvtheory.specs.Rows.{parameters};
+ghost use Rattle.uvtheory.specs.Inputs.{parameters};
 ghost use Rattle.uvtheory.specs.Wca as F;
 ghost use Rattle.uvtheory_range.specs.Rows.{state};
 ghost use Rattle.uvtheory_range.specs.Held.{ContributionsOf};

@@ -16,7 +16,7 @@ ghost use Rattle.arithmetic.specs.Sums.{pairs};
 ghost use Rattle.range.specs.Rules.{ranges};
 ghost use Rattle.uvtheory.specs.Literals as N;
 ghost use Rattle.uvtheory.specs.Tables.{table};
-ghost use Rattle.uvtheory.specs.Rows.{parameters};
+ghost use Rattle.uvtheory.specs.Inputs.{parameters};
 ghost use Rattle.uvtheory.specs.Wca.ReferencePerturbation as F;
 ghost use Rattle.uvtheory_range.specs.Rows.{row, matrix, state};
 ghost use Rattle.uvtheory_range.specs.Held.{CombinedOf};

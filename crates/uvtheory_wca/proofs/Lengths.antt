@@ -7,7 +7,8 @@ use Rattle.arithmetic.specs.Doubles.{guarded}
 use Rattle.uvtheory.specs.declared.parameters.Mixture.{Mixture}
 use Rattle.uvtheory.specs.declared.parameters.Combined.{Combined}
 use Rattle.uvtheory_wca.specs.declared.hard_sphere.LengthTables.{LengthTables}
-use Rattle.uvtheory.specs.Rows.{matrixOf, MatrixOf, matrix, Matrix, parameters}
+use Rattle.uvtheory.specs.Rows.{matrixOf, MatrixOf, matrix, Matrix}
+use Rattle.uvtheory.specs.Inputs.{parameters}
 use Rattle.uvtheory.specs.Held.{SymmetricOf, CombinedOf, Symmetric}
 use Rattle.uvtheory_wca.specs.Lengths.{LengthsOf}
 use Rattle.uvtheory.specs.Wca.HardSphere.{rm-of, dimensionless-diameter-q-wca}

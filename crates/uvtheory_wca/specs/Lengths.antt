@@ -4,7 +4,8 @@ use Rattle.arithmetic.specs.Doubles.{guarded}
 use Rattle.uvtheory.specs.declared.parameters.Mixture.{Mixture}
 use Rattle.uvtheory_wca.specs.declared.hard_sphere.ComponentLengths.{ComponentLengths}
 use Rattle.uvtheory_wca.specs.declared.hard_sphere.LengthTables.{LengthTables}
-use Rattle.uvtheory.specs.Rows.{row, Row, Matrix, parameters}
+use Rattle.uvtheory.specs.Rows.{row, Row, Matrix}
+use Rattle.uvtheory.specs.Inputs.{parameters}
 use Rattle.uvtheory.specs.Wca.HardSphere.{rm-of, diameter-wca, dimensionless-length-scale, dimensionless-diameter-q-wca}
 
 pub record ComponentLengthsOf (m : Mixture) (t : Float) (r : ComponentLengths) : Type 0 where

@@ -1,7 +1,7 @@
 use mathlib.Core.Path.{refl, _∙_}
 use lib.Ieee.{nan}
 use Rattle.arithmetic.specs.Doubles.{guarded}
-use Rattle.uvtheory.specs.Rows.{state}
+use Rattle.uvtheory.specs.Inputs.{state}
 use Rattle.uvtheory.proofs.Combined.{rep-symmetric, att-symmetric, epsilon-symmetric}
 use Rattle.uvtheory_wca.proofs.Lengths.{lengths-are}
 use Rattle.uvtheory.proofs.Arrays.{hard-sphere-of}

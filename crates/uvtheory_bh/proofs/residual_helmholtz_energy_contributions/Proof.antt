@@ -4,7 +4,8 @@ use Rattle.arithmetic.specs.Doubles.{guarded}
 use mathlib.Core.List.{List}
 use Rattle.uvtheory.specs.declared.parameters.Mixture.{Mixture}
 use Rattle.uvtheory.specs.declared.parameters.State.{State}
-use Rattle.uvtheory.specs.Rows.{row, Row, parameters, state}
+use Rattle.uvtheory.specs.Rows.{row, Row}
+use Rattle.uvtheory.specs.Inputs.{parameters, state}
 use Rattle.uvtheory.specs.HardSphere as H
 use Rattle.uvtheory.specs.Bh.HardSphere.{diameter-bh}
 use Rattle.uvtheory.proofs.Arrays.{hard-sphere-of}

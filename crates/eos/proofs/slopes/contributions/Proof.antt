@@ -1,41 +1,31 @@
-use Prim.Native.Nat.{_≤_}
-use mathlib.Core.Path.{subst}
-use native.Mathlib.Omega.{arith}
-use Rattle.dual.specs.declared.basic.Dual.{Dual}
-use Rattle.dual.specs.Rules.{guardedSlopes}
+use borrow.Author.Needs.{needs}
 use Rattle.uvtheory.specs.Eos.{residual-helmholtz-energy-contributions}
-use Rattle.uvtheory.specs.Parameters.{State}
-use Rattle.uvtheory.specs.Rows.{parameters}
-use Rattle.uvtheory.specs.Bh as Bh
-use Rattle.uvtheory.specs.Wca as Wca
-use Rattle.uvtheory_dual.specs.Held.{ContributionsOf}
-use Rattle.eos.specs.Slopes.{contributions}
-use Rattle.eos.proofs.Choice.{third}
+use Rattle.eos.specs.Contributions.{contributions}
 use Rattle.eos.proofs.slopes.contributions.Statement.{statement}
 use Rattle.eos.proofs.slopes.contributions.Tie as tie
 
 returns : tie.Need-returns
 unfolding contributions residual-helmholtz-energy-contributions
-returns c =
-    let s = c .before .before in
-    let r = c .residual-helmholtz-energy-contributions in
-    rw (c .before .if1 .taken) (subst (λ (t : State Dual). ContributionsOf (r .result) (Bh.residual-helmholtz-energy-contributions guardedSlopes (parameters guardedSlopes (s .before .args .m)) t)) (s .started .ensures) (r .ensures))
+returns c = rw (c .before .enum-told .given .1) (c .residual-helmholtz-energy-contributions .ensures)
 
 returns-2 : tie.Need-returns-2
 unfolding contributions residual-helmholtz-energy-contributions
-returns-2 c =
-    let s = c .before .before .before in
-    let r = c .residual-helmholtz-energy-contributions2 in
-    rw (c .before .if2 .taken) (subst (λ (t : State Dual). ContributionsOf (r .result) (Wca.residual-helmholtz-energy-contributions guardedSlopes (parameters guardedSlopes (s .before .args .m)) t)) (s .started .ensures) (r .ensures))
+returns-2 c = rw (c .before .enum-told2 .given .1) (c .residual-helmholtz-energy-contributions2 .ensures)
 
 returns-3 : tie.Need-returns-3
-unfolding contributions
-returns-3 c =
-    let s = c .before .before .before in
-    let k = s .before .args .perturbation in
-    let h : 2 ≤ k = omega (arith, c .before .if2 .left, c .before .before .if1 .left) in
-    let r = c .residual-helmholtz-energy-contributions-b3 in
-    rw (third guardedSlopes k h) (subst (λ (t : State Dual). ContributionsOf (r .result) (Wca.residual-helmholtz-energy-contributions-b3 guardedSlopes (parameters guardedSlopes (s .before .args .m)) t)) (s .started .ensures) (r .ensures))
+unfolding contributions residual-helmholtz-energy-contributions
+returns-3 c = rw (c .before .enum-told3 .given .1) (c .residual-helmholtz-energy-contributions-b3 .ensures)
 
 pub contributions-spec : {M : Type 1} → statement M
-contributions-spec = tie.close (tie.spec (λ c κs. tt) (λ c κs. c .before .before .pre) returns (λ c κs. c .before .before .before .pre) returns-2 (λ c κs. c .before .before .before .pre) returns-3)
+contributions-spec =
+    tie.close
+    (tie.spec
+    (λ c. search needs)
+    (λ c κs. c .before .before .pre)
+    (λ c. search needs)
+    (λ c κs. c .before .before .pre)
+    (λ c. search needs)
+    (λ c κs. c .before .before .pre)
+    returns
+    returns-2
+    returns-3)

@@ -4,7 +4,7 @@ use mathlib.Core.Path.{refl}
 use native.Mathlib.Omega.{arith}
 use lib.Ieee.{nan}
 use Rattle.arithmetic.specs.Doubles.{guarded}
-use Rattle.uvtheory.specs.Rows.{parameters}
+use Rattle.uvtheory.specs.Inputs.{parameters}
 use Rattle.uvtheory.proofs.Loops.{row-of, column-of, pair-within, square-le, Filled, one-more, mirror, Bounds, square-fits}
 use Rattle.uvtheory.proofs.parameters.combine.Statement.{statement}
 use Rattle.uvtheory.proofs.parameters.combine.Tie as tie

@@ -2,7 +2,8 @@ use mathlib.Core.Path.{refl, _∙_}
 use Prim.Native.Nat.{_*_, _/_, _%_}
 use lib.Ieee.{nan}
 use Rattle.arithmetic.specs.Doubles.{guarded}
-use Rattle.uvtheory.specs.Rows.{row, matrix, parameters}
+use Rattle.uvtheory.specs.Rows.{row, matrix}
+use Rattle.uvtheory.specs.Inputs.{parameters}
 use Rattle.uvtheory.specs.PackingFraction as P
 use Rattle.uvtheory.specs.Bh.HardSphere.{diameter-bh}
 use Rattle.uvtheory.specs.Bh.ReferencePerturbation as F

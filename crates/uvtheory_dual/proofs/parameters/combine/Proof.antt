@@ -4,7 +4,7 @@ use Prim.Native.Nat.{_≤_, _-_, _*_, _<_}
 use mathlib.Core.Path.{refl}
 use native.Mathlib.Omega.{arith}
 use Rattle.dual.specs.Rules.{guardedSlopes}
-use Rattle.uvtheory.specs.Rows.{parameters}
+use Rattle.uvtheory.specs.Inputs.{parameters}
 use Rattle.uvtheory.proofs.Loops.{row-of, column-of, pair-within, square-le, Filled, one-more, mirror, Bounds, square-fits}
 use Rattle.uvtheory_dual.specs.Rows.{missing}
 use Rattle.uvtheory_dual.proofs.parameters.combine.Statement.{statement}

@@ -3,7 +3,7 @@ use mathlib.Core.Path.{_∙_}
 use Prim.Native.Nat.{ℕ, _/_, _%_}
 use Rattle.dual.specs.declared.basic.Dual.{Dual}
 use Rattle.dual.specs.Rules.{guardedSlopes}
-use Rattle.uvtheory.specs.Rows.{parameters}
+use Rattle.uvtheory.specs.Inputs.{parameters}
 use Rattle.uvtheory.specs.Wca.HardSphere.{rm-of, diameter-wca, dimensionless-diameter-q-wca}
 use Rattle.uvtheory.specs.Wca.AttractivePerturbationUvb3 as F
 use Rattle.uvtheory.proofs.Loops.{row-of, column-of}

@@ -1,7 +1,7 @@
 -- Written by tools/copies from crates/uvtheory_range_bh/proofs/attractive_perturbation/helmholtz_energy_density/Proof.antt.
 use mathlib.Core.Path.{_∙_}
 use Rattle.dual.specs.Rules.{guardedSlopes}
-use Rattle.uvtheory.specs.Rows.{parameters}
+use Rattle.uvtheory.specs.Inputs.{parameters}
 use Rattle.uvtheory.specs.Bh.HardSphere.{diameter-bh}
 use Rattle.uvtheory.specs.Bh.AttractivePerturbation as F
 use Rattle.uvtheory_dual.specs.Rows.{row}

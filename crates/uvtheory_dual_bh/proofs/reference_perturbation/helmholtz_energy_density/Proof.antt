@@ -2,7 +2,7 @@
 use Prim.Native.Nat.{_*_, _/_, _%_}
 use mathlib.Core.Path.{refl, _∙_}
 use Rattle.dual.specs.Rules.{guardedSlopes}
-use Rattle.uvtheory.specs.Rows.{parameters}
+use Rattle.uvtheory.specs.Inputs.{parameters}
 use Rattle.uvtheory.specs.PackingFraction as P
 use Rattle.uvtheory.specs.Bh.HardSphere.{diameter-bh}
 use Rattle.uvtheory.specs.Bh.ReferencePerturbation as F

@@ -4,7 +4,7 @@ use Prim.Native.Nat.{ℕ, _*_, _/_, _%_}
 use Rattle.dual.specs.declared.basic.Dual.{Dual}
 use Rattle.dual.specs.Rules.{guardedSlopes}
 use Rattle.uvtheory.specs.Tables.{table}
-use Rattle.uvtheory.specs.Rows.{parameters}
+use Rattle.uvtheory.specs.Inputs.{parameters}
 use Rattle.uvtheory.specs.PackingFraction as P
 use Rattle.uvtheory.specs.Wca.HardSphere.{rm-of, diameter-wca, dimensionless-length-scale, dimensionless-diameter-q-wca}
 use Rattle.uvtheory.specs.Wca.ReferencePerturbation as F

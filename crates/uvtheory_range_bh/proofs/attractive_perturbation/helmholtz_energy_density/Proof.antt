@@ -1,6 +1,6 @@
 use mathlib.Core.Path.{_∙_}
 use Rattle.range.specs.Rules.{ranges}
-use Rattle.uvtheory.specs.Rows.{parameters}
+use Rattle.uvtheory.specs.Inputs.{parameters}
 use Rattle.uvtheory.specs.Bh.HardSphere.{diameter-bh}
 use Rattle.uvtheory.specs.Bh.AttractivePerturbation as F
 use Rattle.uvtheory_range.specs.Rows.{row}

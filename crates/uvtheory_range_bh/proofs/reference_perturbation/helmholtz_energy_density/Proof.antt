@@ -1,7 +1,7 @@
 use Prim.Native.Nat.{_*_, _/_, _%_}
 use mathlib.Core.Path.{refl, _∙_}
 use Rattle.range.specs.Rules.{ranges}
-use Rattle.uvtheory.specs.Rows.{parameters}
+use Rattle.uvtheory.specs.Inputs.{parameters}
 use Rattle.uvtheory.specs.PackingFraction as P
 use Rattle.uvtheory.specs.Bh.HardSphere.{diameter-bh}
 use Rattle.uvtheory.specs.Bh.ReferencePerturbation as F

@@ -2,7 +2,7 @@ use Prim.Native.Nat.{ℕ}
 use mathlib.Core.Path.{_∙_}
 use Rattle.range.specs.declared.basic.Range.{Range}
 use Rattle.range.specs.Rules.{ranges}
-use Rattle.uvtheory.specs.Rows.{parameters}
+use Rattle.uvtheory.specs.Inputs.{parameters}
 use Rattle.uvtheory.specs.Wca.HardSphere.{rm-of, diameter-wca, dimensionless-diameter-q-wca}
 use Rattle.uvtheory.specs.Wca.AttractivePerturbation as F
 use Rattle.uvtheory.proofs.Arrays.{matrix-at}

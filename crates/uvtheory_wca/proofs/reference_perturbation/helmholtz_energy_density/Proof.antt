@@ -3,7 +3,8 @@ use Prim.Native.Nat.{ℕ, _*_, _/_, _%_}
 use lib.Ieee.{Float, nan}
 use Rattle.arithmetic.specs.Doubles.{guarded}
 use Rattle.uvtheory.specs.Tables.{table}
-use Rattle.uvtheory.specs.Rows.{row, matrix, parameters}
+use Rattle.uvtheory.specs.Rows.{row, matrix}
+use Rattle.uvtheory.specs.Inputs.{parameters}
 use Rattle.uvtheory.specs.PackingFraction as P
 use Rattle.uvtheory.specs.Wca.HardSphere.{rm-of, diameter-wca, dimensionless-length-scale, dimensionless-diameter-q-wca}
 use Rattle.uvtheory.specs.Wca.ReferencePerturbation as F
