@@ -34,7 +34,7 @@ use Rattle.answer.specs.declared.Answer.{Answer}
 use Rattle.answer.specs.declared.Answer.the-variants.{Energies, Ends, Slopes, Refused}
 use Rattle.calls.specs.declared.kinds.Kind.{Kind}
 use Rattle.calls.specs.declared.kinds.Kind.the-variants.{Energies as ForEnergies, Ends as ForEnds, Slopes as ForSlopes}
-use Rattle.calls.specs.Answers.{all, answerOf, answered, beyond, endsOf, energiesOf, resultOf, slopesOf, workedOf}
+use Rattle.calls.specs.Answers.{all, answerOf, answered, arithmetic, beyond, endsOf, energiesOf, resultOf, slopesOf, workedOf}
 
 -- ---- an answer behind a code, and behind the codes of two stages
 module _ (code : ℕ) (a : Answer) where
@@ -61,8 +61,9 @@ pub stages : (kind : Kind) (s : List ℕ) → let c = caseOf s in
 unfolding answerOf workedOf
 stages kind s =
     let c = caseOf s in
-    in-stages (envelope s) _ (resultOf kind c) (tt, (tt, (tt, (tt, (tt, tt)))))
-    ∙ ap (answered (firstFailing (envelope s))) (in-stages (substances c ++ state c) _ (resultOf kind c) (tt, (tt, tt)))
+    let worked = arithmetic c ++ beyond kind c in
+    in-stages (envelope s) ((substances c ++ state c) ++ worked) (resultOf kind c) (tt, (tt, (tt, (tt, (tt, tt)))))
+    ∙ ap (answered (firstFailing (envelope s))) (in-stages (substances c ++ state c) worked (resultOf kind c) (tt, (tt, tt)))
 
 -- ---- three tests
 each-same : {p q r p′ q′ r′ : Bool} → p ≡ p′ → q ≡ q′ → r ≡ r′ → p && q && r ≡ p′ && q′ && r′
@@ -146,8 +147,8 @@ module _ {h g d : Dual} (held : h ≡ g) (agrees : Same g d) where
   dual-value-tested = ap (λ (x : Dual). finite (x .value)) held ∙ finite-checked (g .value) ∙ ap (λ (x : Dual). finite (x .value)) (agrees .is)
 
 -- where both halves are finite, so is the value
-ok-value : {h : Dual} → T (Dual.ok h) → finite (h .value) ≡ true
-ok-value {h} k = go (finite (h .value)) (finite (h .slope)) k
+ok-value : (h : Dual) → T (Dual.ok h) → finite (h .value) ≡ true
+ok-value h k = go (finite (h .value)) (finite (h .slope)) k
   where
     go : (p q : Bool) → T (p && q) → p ≡ true
     go true q k = refl
@@ -176,7 +177,7 @@ module _ (c : Case) {e : HeldDuals} (are : DualsOf e (contributions guardedSlope
     all-sloped h =
         let a = Sloped.contributions-agree (c .perturbation) (c .mixture) (c .state) in
         let t = each-true (Dual.ok (e .«hard_sphere»)) (Dual.ok (e .reference)) (Dual.ok (e .attractive)) (sym b-is ∙ h) in
-        let f : true ≡ all finite (energiesOf c) = values-tested (sym (each-same (ok-value (t .0)) (ok-value (t .1)) (ok-value (t .2)))) in
+        let f : true ≡ all finite (energiesOf c) = values-tested (sym (each-same (ok-value (e .«hard_sphere») (t .0)) (ok-value (e .reference) (t .1)) (ok-value (e .attractive) (t .2)))) in
         rw (
           sym f,
           sym slopes-tested ∙ h,

@@ -22,9 +22,9 @@ use Rattle.calls.specs.Beside.{Sloped, Beside}
 use Rattle.calls.proofs.Answers.{stages}
 
 -- behind the same code
-behind : {a b : Answer} (code : ℕ) → Beside a b → Beside (answered code a) (answered code b)
+behind : (code : ℕ) (a b : Answer) → Beside a b → Beside (answered code a) (answered code b)
 unfolding answered
-behind {a} {b} code h = go (eqb code 0)
+behind code a b h = go (eqb code 0)
   where
     go : (p : Bool) → Beside (cond p a (Refused code)) (cond p b (Refused code))
     go true = h
@@ -52,4 +52,8 @@ of-case c = three-beside (energiesOf c) (slopesOf c) (values-are (c .perturbatio
 pub slopes-beside : (s : List ℕ) → Beside (answerOf ForEnergies s) (answerOf ForSlopes s)
 slopes-beside s =
     let c = caseOf s in
-    rw (stages ForEnergies s, stages ForSlopes s) (behind (firstFailing (envelope s)) (behind (firstFailing (substances c ++ state c)) (of-case c)))
+    let of-checks = firstFailing (substances c ++ state c) in
+    let energies = workedOf ForEnergies c in
+    let sloped = workedOf ForSlopes c in
+    rw (stages ForEnergies s, stages ForSlopes s)
+    (behind (firstFailing (envelope s)) (answered of-checks energies) (answered of-checks sloped) (behind of-checks energies sloped (of-case c)))

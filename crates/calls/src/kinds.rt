@@ -36,9 +36,10 @@ fn energies_of(c: Case) -> Answer
     requires { ⌜ c .mixture .n ≤ 8 ⌝ }
     ensures { λ r. ⌜ r ≡ workedOf Kinds.Energies c ⌝ }
 {
+    let perturbation = c.perturbation;
     let mixture = c.mixture;
     let state = c.state;
-    let e = eos::doubles::contributions(c.perturbation, mixture, state);
+    let e = eos::doubles::contributions(perturbation, mixture, state);
     if are_finite(e) {
         return Answer::Energies(e.hard_sphere, e.reference, e.attractive);
     }
@@ -50,9 +51,10 @@ fn ranges_of(c: Case) -> Answer
     requires { ⌜ c .mixture .n ≤ 8 ⌝ }
     ensures { λ r. ⌜ r ≡ answered (firstFailing (beyond Kinds.Ends c)) (resultOf Kinds.Ends c) ⌝ }
 {
+    let perturbation = c.perturbation;
     let mixture = c.mixture;
     let state = c.state;
-    let e = eos::ranges::contributions(c.perturbation, mixture, eos::ranges::sent(state));
+    let e = eos::ranges::contributions(perturbation, mixture, eos::ranges::sent(state));
     let hard_sphere = e.hard_sphere;
     let reference = e.reference;
     let attractive = e.attractive;
@@ -67,9 +69,10 @@ fn ends_of(c: Case) -> Answer
     requires { ⌜ c .mixture .n ≤ 8 ⌝ }
     ensures { λ r. ⌜ r ≡ workedOf Kinds.Ends c ⌝ }
 {
+    let perturbation = c.perturbation;
     let mixture = c.mixture;
     let state = c.state;
-    let e = eos::doubles::contributions(c.perturbation, mixture, state);
+    let e = eos::doubles::contributions(perturbation, mixture, state);
     if are_finite(e) {
         return ranges_of(c);
     }
@@ -81,9 +84,10 @@ fn slopes_of(c: Case) -> Answer
     requires { ⌜ c .mixture .n ≤ 8 ⌝ }
     ensures { λ r. ⌜ r ≡ workedOf Kinds.Slopes c ⌝ }
 {
+    let perturbation = c.perturbation;
     let mixture = c.mixture;
     let state = c.state;
-    let e = eos::slopes::contributions(c.perturbation, mixture, eos::slopes::started(state));
+    let e = eos::slopes::contributions(perturbation, mixture, eos::slopes::started(state));
     let x = e.hard_sphere;
     let y = e.reference;
     let z = e.attractive;

@@ -1,13 +1,13 @@
 -- What follows from tests that pass: the code of two stages, and that a record whose envelope passes has all the bytes of its header.
 use Prim.Native.Nat.{ℕ, zero, suc, _-_, _≤_}
-use mathlib.Core.Path.{_≡_, refl}
+use mathlib.Core.Path.{_≡_, refl, sym, _∙_}
 use mathlib.Core.Bool.{Bool, true, false, _&&_, cond, false≢true}
 use mathlib.Core.List.{List, [], _∷_, _++_}
 use native.Mathlib.Nat.{suc-ne-zero}
 use native.Mathlib.Omega.{arith}
 use lib.Dec.{T, leb, ltb, eqb}
 use lib.ListN.{length}
-use borrow.Author.Tests.{leb-true, eqb-true, ne-eqb}
+use borrow.Author.Tests.{leb-true, eqb-true, eq-eqb, ne-eqb}
 use Rattle.case_record.specs.Layout.{headerOf, lengthField, lengthOf}
 use Rattle.case_record.specs.Record.{Whole}
 use Rattle.checks.specs.Checks.{Checks, envelope, firstFailing}
@@ -23,6 +23,14 @@ in-order [] b h = refl
 in-order ((code, true) ∷ rest) b (t, h) = in-order rest b h
 in-order ((zero, false) ∷ rest) b (t, h) = absurd t
 in-order ((suc code, false) ∷ rest) b (t, h) = rw (ne-eqb (suc code) 0 (suc-ne-zero code))
+
+-- where one of the first fails, and where none does
+module _ (a b : Checks) (none-zero : NoneZero a) where
+  pub first-fails : (firstFailing a ≡ 0 → ⊥) → firstFailing a ≡ firstFailing (a ++ b)
+  first-fails h = sym (in-order a b none-zero ∙ rw (ne-eqb (firstFailing a) 0 h))
+
+  pub first-passes : firstFailing a ≡ 0 → firstFailing b ≡ firstFailing (a ++ b)
+  first-passes h = sym (in-order a b none-zero ∙ rw (eq-eqb (firstFailing a) 0 h))
 
 -- the test with a code
 abbrev pub testOf : ℕ → Checks → Bool

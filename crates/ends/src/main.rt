@@ -1,5 +1,5 @@
 // Answers the case records of standard input by their ends.
-use noddyfir::call::Kind;
+use calls::kinds::Kind;
 
 fn main() {
     program::answer_input(Kind::Ends);

@@ -10,7 +10,7 @@ use lib.Seq.{length-take-le, take-append-seam, drop-append-seam, drop-drop}
 use lib.Dec.{eqb, ltb}
 use borrow.Author.Tests.{le-leb, ne-eqb, le-ltb}
 use Rattle.big_endian.specs.Bytes.{bigEndian, written}
-use Rattle.noddyfir.specs.declared.call.Kind.{Kind}
+use Rattle.calls.specs.declared.kinds.Kind.{Kind}
 use Rattle.noddyfir.specs.Call.{answerTo, callBuffer, roomOf}
 use Rattle.noddyfir.specs.declared.reader.Next.{Next}
 use Rattle.noddyfir.specs.declared.reader.Next.the-variants.{UsedUp, Broken, Whole}

@@ -14,10 +14,10 @@ use Rattle.range.proofs.Rows as Ranges
 use Rattle.uvtheory.specs.Parameters.{UVTheoryPars, new}
 use Rattle.uvtheory.specs.Rows.{row}
 use Rattle.big_endian.specs.Bytes.{bigEndian, bytesOf}
-use Rattle.case_record.specs.Record.{lengthOf}
-use Rattle.case_record.specs.Record as Record
-use Rattle.case_record.specs.Checks.{refusalOf}
-use Rattle.noddyfir.specs.Call.{answerOf, endsAnswer, energiesAnswer, slopesAnswer}
+use Rattle.case_record.specs.Layout as Layout
+use Rattle.case_record.specs.Layout.{lengthAt}
+use Rattle.calls.specs.Answers.{answerOf, answered}
+use Rattle.noddyfir.specs.Call.{endsAnswer, energiesAnswer, slopesAnswer}
 use Rattle.noddyfir.specs.Run.{Outcome, runFrom, runOf}
 
 -- "combining (rep 9, 16; att 6, 6; sigma 3, 4; epsilon_k 100, 400; k 0.25)"
@@ -45,7 +45,7 @@ bothRefused =
 
 pub record Table : Type 0 where
   -- "lengths 59, 115, 619 at n = 1, 2, 8"
-  pub lengths : (lengthOf 1 ≡ 59) × (lengthOf 2 ≡ 115) × (lengthOf 8 ≡ 619)
+  pub lengths : (lengthAt 1 ≡ 59) × (lengthAt 2 ≡ 115) × (lengthAt 8 ≡ 619)
   -- ".. gives 12, 6, 3.5, 150"
   pub combining : (mixture .rep-ij 0 1 ≡ nearest 12 1) × (mixture .att-ij 0 1 ≡ nearest 6 1) × (mixture .sigma-ij 0 1 ≡ nearest 7 2) × (mixture .eps-k-ij 0 1 ≡ nearest 150 1)
   -- "sqrt 2.25 = 1.5; ln 1 = 0; exp 0 = 1; tanh 0 = 0; 0 to the 1.2187 = 0"
@@ -67,15 +67,15 @@ unfolding Root.sqrt ofBits round add sub mul
 combined = (refl, refl, refl, refl)
 
 energies-run : runOf 28 energiesAnswer sevenBytes (replicate 60 0xAA) ≡ bothRefused
-unfolding runFrom answerOf refusalOf bigEndian bytesOf
+unfolding runFrom answerOf answered bigEndian bytesOf
 energies-run = refl
 
 ends-run : runOf 52 endsAnswer sevenBytes (replicate 60 0xAA) ≡ bothRefused
-unfolding runFrom answerOf refusalOf bigEndian bytesOf
+unfolding runFrom answerOf answered bigEndian bytesOf
 ends-run = refl
 
 slopes-run : runOf 52 slopesAnswer sevenBytes (replicate 60 0xAA) ≡ bothRefused
-unfolding runFrom answerOf refusalOf bigEndian bytesOf
+unfolding runFrom answerOf answered bigEndian bytesOf
 slopes-run = refl
 
 pub table : Table
@@ -83,7 +83,7 @@ table =
     let e = Elementary.rows in
     let r = Ranges.rows in
     record {
-      lengths = Record.lengths;
+      lengths = Layout.lengths;
       combining = combined;
       root = e .0;
       logarithm = e .1;

@@ -1,7 +1,5 @@
 -- Laws of the definitions, and document 01's case of a run.
-pub mod Answers
+pub mod Sizes
 pub mod Running
 pub mod Apart
 pub mod Cases
-pub mod Guarantee
-pub mod Beside

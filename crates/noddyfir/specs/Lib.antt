@@ -1,6 +1,4 @@
--- What documents 01 and 02 say of a call, of a run, of ends and of slopes.
+-- What documents 01 and 02 say of a call on a buffer, and of a run.
 pub mod Call
 pub mod Run
 pub mod Apart
-pub mod Guarantee
-pub mod Beside

@@ -3,7 +3,7 @@ ghost use mathlib.Core.Path.{_≡_};
 ghost use Prim.Native.Nat.{_≤_};
 ghost use lib.ListN.{length};
 ghost use Rattle.noddyfir.specs.Call.{callBuffer, callCode, codeTo, endsAnswer, energiesAnswer, slopesAnswer};
-ghost use Rattle.noddyfir.specs.declared.call.Kind.the-variants as Kinds;
+ghost use Rattle.calls.specs.declared.kinds.Kind.the-variants as Kinds;
 ghost use Rattle.noddyfir.specs.Run.{runOf};
 use crate::call::ends;
 use crate::call::energies;

@@ -4,12 +4,12 @@ ghost use Prim.Native.Nat.{_≤_};
 ghost use lib.ListN.{length};
 ghost use Rattle.noddyfir.specs.Call.{answerTo, endsAnswer, energiesAnswer, roomOf, slopesAnswer};
 ghost use Rattle.noddyfir.specs.Run.{runOf, sizeOf};
-use crate::call::Kind;
 use crate::call::answer_to;
 use crate::call::room_of;
 use crate::reader::Next;
 use crate::reader::next_from;
 use crate::reader::record_from;
+use calls::kinds::Kind;
 
 // Records done, bytes read, bytes written, and why the run stopped: 0 input used up, 2 broken tail, 1 no room for an answer.
 #[repr(C)]

@@ -2,9 +2,9 @@
 ghost use mathlib.Core.Path.{_≡_};
 ghost use Prim.Native.Nat.{_+_, _≤_, _<_};
 ghost use lib.ListN.{length};
+use calls::kinds::Kind;
 use libc::STDIN_FILENO;
 use libc::STDOUT_FILENO;
-use noddyfir::call::Kind;
 use noddyfir::run::Run;
 use noddyfir::run::run_records;
 

@@ -7,7 +7,7 @@ use borrow.Author.Needs.{needs}
 use lib.Seq.{length-take-le}
 use Rattle.noddyfir.specs.Call.{answerTo, roomOf}
 use Rattle.noddyfir.proofs.Running.{progress}
-use Rattle.noddyfir.proofs.Answers.{small-room}
+use Rattle.noddyfir.proofs.Sizes.{small-room}
 use Rattle.program.proofs.answer_from.Statement.{statement}
 use Rattle.program.proofs.answer_from.Tie as tie
 

@@ -6,7 +6,7 @@ use lib.ListN.{length}
 use borrow.Author.Needs.{needs}
 use borrow.Author.Tests.{lt-ltb, le-ltb}
 use Rattle.noddyfir.specs.Call.{roomOf}
-use Rattle.noddyfir.proofs.Answers.{answers-fit}
+use Rattle.noddyfir.proofs.Sizes.{answers-fit}
 use Rattle.noddyfir.proofs.call.answer_to.Statement.{statement}
 use Rattle.noddyfir.proofs.call.answer_to.Tie as tie
 

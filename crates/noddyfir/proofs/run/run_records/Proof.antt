@@ -1,7 +1,7 @@
 -- The loop's invariant: the run is what was done, and behind it the run of the bytes that are left.
 use Prim.Native.Nat.{ℕ, _-_, _≤_}
 use mathlib.Core.Path.{_≡_, sym, ap, _∙_}
-use Rattle.noddyfir.specs.declared.call.Kind.{Kind}
+use Rattle.calls.specs.declared.kinds.Kind.{Kind}
 use mathlib.Core.List.{List}
 use native.Mathlib.Omega.{arith}
 use borrow.Author.Needs.{needs}
@@ -9,7 +9,7 @@ use lib.ListN.{length, drop, length-drop}
 use Rattle.noddyfir.specs.Call.{answerTo, codeTo, roomOf}
 use Rattle.noddyfir.specs.Run.{nextOf, sizeOf}
 use Rattle.noddyfir.specs.declared.reader.Next.the-variants.{UsedUp, Broken, Whole}
-use Rattle.noddyfir.proofs.Answers.{answers-fit, answers-sized, some-room}
+use Rattle.noddyfir.proofs.Sizes.{answers-fit, answers-sized, some-room}
 use Rattle.noddyfir.proofs.Running.{Going, again, at-broken, at-end, at-full, finish, nonempty, start, turns-left, whole-size}
 use Rattle.noddyfir.proofs.run.run_records.Statement.{statement}
 use Rattle.noddyfir.proofs.run.run_records.Tie as tie
