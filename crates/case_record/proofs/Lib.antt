@@ -1,4 +1,6 @@
 -- Laws of the definitions, and an example.
 pub mod Sizes
 pub mod Rows
+pub mod Places
+pub mod Writing
 pub mod Examples
