@@ -2,5 +2,5 @@
 pub mod Sizes
 pub mod Rows
 pub mod Places
-pub mod Writing
+pub mod Pieces
 pub mod Examples

@@ -8,7 +8,7 @@ use lib.ListN.{length-set}
 use lib.Seq.{sets-eq}
 use Rattle.big_endian.specs.Bytes.{written}
 use Rattle.case_record.proofs.Sizes.{few-doubles}
-use Rattle.case_record.proofs.Writing.{header-written}
+use Rattle.case_record.proofs.Pieces.{header-written}
 use Rattle.case_record.proofs.writing.put_header.Statement.{statement}
 use Rattle.case_record.proofs.writing.put_header.Tie as tie
 

@@ -12,7 +12,7 @@ use Rattle.case_record.specs.Layout.{layoutOf}
 use Rattle.case_record.specs.Record.{values}
 use Rattle.case_record.specs.Writing.{doubleOf}
 use Rattle.case_record.proofs.Sizes.{few-doubles}
-use Rattle.case_record.proofs.Writing.{none-yet, double-more, whole-record}
+use Rattle.case_record.proofs.Pieces.{none-yet, double-more, whole-record}
 use Rattle.case_record.proofs.writing.write_record.Statement.{statement}
 use Rattle.case_record.proofs.writing.write_record.Tie as tie
 
@@ -25,14 +25,14 @@ Inv-loop out₀ h m s k₀ k-end out k =
 abbrev μ-loop : tie.MeasureT-loop
 μ-loop out₀ h m s k₀ k-end out k = layoutOf h .doubles - k
 
-abbrev start : tie.After-layout-of → tie.Start
+abbrev start : tie.After-layout-of Inv-loop μ-loop → tie.Start Inv-loop μ-loop
 start c = c .before .before .before .before .before .before
 
 -- the loop goes to the number of doubles
-to-the-end : (c : tie.After-layout-of) → c .layout-of .result .doubles ≡ layoutOf (start c .args .h) .doubles
+to-the-end : (c : tie.After-layout-of Inv-loop μ-loop) → c .layout-of .result .doubles ≡ layoutOf (start c .args .h) .doubles
 to-the-end c = ap (λ (l : Layout). l .doubles) (c .layout-of .ensures)
 
-few : (c : tie.After-layout-of) → layoutOf (start c .args .h) .doubles ≤ 77
+few : (c : tie.After-layout-of Inv-loop μ-loop) → layoutOf (start c .args .h) .doubles ≤ 77
 few c = few-doubles (start c .args .h) (start c .pre .0)
 
 loop-holds : tie.Need-loop-holds Inv-loop μ-loop
