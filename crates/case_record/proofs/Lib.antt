@@ -4,4 +4,5 @@ pub mod Rows
 pub mod Values
 pub mod Places
 pub mod Pieces
+pub mod Inverse
 pub mod Examples

@@ -1,0 +1,89 @@
+-- Reading and writing undo each other: a record that was read is written as it was, and what was written is read.
+use Prim.Native.Nat.{ℕ, zero, suc, _+_, _-_, _*_, _≤_, _<_}
+use mathlib.Core.Path.{_≡_, refl, sym, ap, ap₂, _∙_, subst}
+use mathlib.Core.Bool.{not}
+use mathlib.Core.List.{List, [], _∷_, _++_}
+use native.Mathlib.Omega.{arith}
+use lib.Dec.{T}
+use lib.ListN.{length, getD, take, drop, length-drop, take-append-drop}
+use lib.Seq.{drop-cons, drop-drop, take-add, take-all}
+use lib.Ieee.{Float, binary64, fits, isNan, nan}
+use Rattle.uvtheory.specs.declared.parameters.Mixture.{Mixture}
+use Rattle.uvtheory.specs.declared.parameters.State.{State}
+use Rattle.big_endian.specs.Bytes.{bytesOf, doublesBytes}
+use Rattle.big_endian.proofs.Inverse as bytes
+use Rattle.big_endian.proofs.Written.{doubles-snoc, length-doubles}
+use Rattle.case_record.specs.declared.layout.Header.{Header}
+use Rattle.case_record.specs.Layout.{headerOf, layoutOf, lengthField, lengthOf, pairs}
+use Rattle.case_record.specs.Record.{column, double, mixtureOf, row, stateOf, values}
+use Rattle.case_record.specs.Writing.{Padded, PaddedRow, doubleOf, fieldOf, headerBytes, recordBytes}
+use Rattle.case_record.proofs.Rows.{length-values}
+use Rattle.case_record.proofs.Sizes.{few-doubles}
+use Rattle.case_record.proofs.Values.{value-at, same-values, row-at, same-rows, row-padded}
+use Rattle.case_record.proofs.Places.{substance-at, k-ij-at, temperature-at, density-at, fraction-at, each-place}
+
+-- ---- a record that was read, by any header
+field-of-read : (s : List ℕ) (h : Header) (j : ℕ) → j < 4 → fieldOf (mixtureOf s h) j ≡ row 8 (h .n) (column s j 4)
+unfolding mixtureOf
+field-of-read s h zero p = refl
+field-of-read s h (suc zero) p = refl
+field-of-read s h (suc (suc zero)) p = refl
+field-of-read s h (suc (suc (suc zero))) p = refl
+field-of-read s h (suc (suc (suc (suc j)))) p = absurd (four j p)
+  where
+    four : (j : ℕ) → suc (suc (suc (suc j))) < 4 → ⊥
+    four j p = omega arith
+
+-- its doubles are those that are written of it
+pub double-of-read : (s : List ℕ) (h : Header) (k : ℕ) → k < layoutOf h .doubles → doubleOf h (mixtureOf s h) (stateOf s h) k ≡ double s k
+unfolding mixtureOf stateOf
+double-of-read s h =
+    let m = mixtureOf s h in
+    let t = stateOf s h in
+    each-place h (λ k. doubleOf h m t k ≡ double s k)
+    (λ j i p q. substance-at h m t j i p q ∙ ap (λ (l : List Float). getD l i nan) (field-of-read s h j p) ∙ row-at 8 (h .n) (column s j 4) i q)
+    (λ i p. k-ij-at h m t i p ∙ row-at 28 (pairs (h .n)) (column s (layoutOf h .«k_ij») 1) i p)
+    (temperature-at h m t)
+    (λ i p. density-at h m t i p ∙ row-at 8 (h .n) (column s (layoutOf h .«partial_density») 1) i p)
+    (λ i p. fraction-at h m t i p ∙ row-at 8 (h .n) (column s (layoutOf h .molefracs) 1) i p)
+
+-- what is read can be read again
+pub read-padded : (s : List ℕ) (h : Header) → Padded (h .n) (mixtureOf s h) (stateOf s h)
+unfolding mixtureOf stateOf
+read-padded s h = record {
+  count = refl;
+  rep = row-padded 8 (h .n) s 0 4;
+  att = row-padded 8 (h .n) s 1 4;
+  sigma = row-padded 8 (h .n) s 2 4;
+  epsilon-k = row-padded 8 (h .n) s 3 4;
+  k-ij = row-padded 28 (pairs (h .n)) s (layoutOf h .«k_ij») 1;
+  temperature = bytes.read-fits s (5 + 8 * layoutOf h .temperature);
+  partial-density = row-padded 8 (h .n) s (layoutOf h .«partial_density») 1;
+  molefracs = row-padded 8 (h .n) s (layoutOf h .molefracs) 1;
+}
+
+-- ---- a record of bytes without a NaN, written as it was
+module _ (s : List ℕ) (are-bytes : (i : ℕ) → getD s i 0 < 256) where
+  doubles-of-read : (n : ℕ) → 5 + 8 * n ≤ length s → ((k : ℕ) → k < n → T (not (isNan (double s k)))) → doublesBytes (values n (double s)) ≡ take (8 * n) (drop 5 s)
+  unfolding values
+  doubles-of-read zero l h = refl
+  doubles-of-read (suc n) l h =
+      let e : 8 * suc n ≡ 8 * n + 8 = omega arith in
+      let before : doublesBytes (values n (double s)) ≡ take (8 * n) (drop 5 s) = doubles-of-read n (omega arith) (λ k p. h k (omega arith)) in
+      let last = bytes.written-double s are-bytes (5 + 8 * n) (omega arith) (h n (omega arith)) in
+      doubles-snoc (values n (double s)) (double s n) ∙ ap₂ _++_ before (last ∙ ap (take 8) (sym (drop-drop (8 * n) 5 s))) ∙ rw e (sym (take-add (8 * n) 8 (drop 5 s)))
+
+  header-of-read : 5 ≤ length s → take 2 s ++ (getD s 2 0 ∷ getD s 3 0 ∷ getD s 4 0 ∷ drop 5 s) ≡ s
+  header-of-read l = rw (← drop-cons s 4 0 (omega arith), ← drop-cons s 3 0 (omega arith), ← drop-cons s 2 0 (omega arith)) (take-append-drop 2 s)
+
+  -- with the two checks of its length
+  pub written-read : 5 ≤ length s → lengthField s ≡ length s - 2 → lengthField s ≡ lengthOf (headerOf s)
+      → ((k : ℕ) → k < layoutOf (headerOf s) .doubles → T (not (isNan (double s k))))
+      → recordBytes (headerOf s) (mixtureOf s (headerOf s)) (stateOf s (headerOf s)) ≡ s
+  written-read l e f h =
+      let d = layoutOf (headerOf s) .doubles in
+      let whole : length s ≡ 5 + 8 * d = omega arith in
+      let a : bytesOf (lengthOf (headerOf s)) 2 ≡ take 2 s = ap (λ (n : ℕ). bytesOf n 2) (sym f) ∙ bytes.written-read s are-bytes 0 2 (omega arith) in
+      let b : values d (doubleOf (headerOf s) (mixtureOf s (headerOf s)) (stateOf s (headerOf s))) ≡ values d (double s) = same-values d _ _ (double-of-read s (headerOf s)) in
+      let c : doublesBytes (values d (double s)) ≡ drop 5 s = doubles-of-read d (omega arith) h ∙ take-all (8 * d) (drop 5 s) (rw length-drop (omega arith)) in
+      rw (a, b, c) (header-of-read l)
