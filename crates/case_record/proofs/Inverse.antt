@@ -5,7 +5,7 @@ use mathlib.Core.Bool.{not}
 use mathlib.Core.List.{List, [], _∷_, _++_}
 use native.Mathlib.Omega.{arith}
 use lib.Dec.{T}
-use lib.ListN.{length, getD, take, drop, length-drop, take-append-drop}
+use lib.ListN.{length, getD, take, drop, length-append, length-drop, take-append-drop}
 use lib.Seq.{drop-cons, drop-drop, take-add, take-all}
 use lib.Ieee.{Float, binary64, fits, isNan, nan}
 use Rattle.uvtheory.specs.declared.parameters.Mixture.{Mixture}
@@ -87,3 +87,85 @@ module _ (s : List ℕ) (are-bytes : (i : ℕ) → getD s i 0 < 256) where
       let b : values d (doubleOf (headerOf s) (mixtureOf s (headerOf s)) (stateOf s (headerOf s))) ≡ values d (double s) = same-values d _ _ (double-of-read s (headerOf s)) in
       let c : doublesBytes (values d (double s)) ≡ drop 5 s = doubles-of-read d (omega arith) h ∙ take-all (8 * d) (drop 5 s) (rw length-drop (omega arith)) in
       rw (a, b, c) (header-of-read l)
+
+-- ---- what was written, read, with anything behind it
+field-padded : {n : ℕ} {m : Mixture} {t : State} → Padded n m t → (j : ℕ) → PaddedRow 8 n (fieldOf m j)
+field-padded p zero = p .rep
+field-padded p (suc zero) = p .att
+field-padded p (suc (suc zero)) = p .sigma
+field-padded p (suc (suc (suc j))) = p .epsilon-k
+
+same-mixture : {a b : Mixture} → a .n ≡ b .n → a .rep ≡ b .rep → a .att ≡ b .att → a .sigma ≡ b .sigma → a .«epsilon_k» ≡ b .«epsilon_k» → a .«k_ij» ≡ b .«k_ij» → a ≡ b
+same-mixture n rep att sigma epsilon-k k-ij = λ i. record { n = n i; rep = rep i; att = att i; sigma = sigma i; «epsilon_k» = epsilon-k i; «k_ij» = k-ij i }
+
+same-state : {a b : State} → a .temperature ≡ b .temperature → a .«partial_density» ≡ b .«partial_density» → a .molefracs ≡ b .molefracs → a ≡ b
+same-state temperature density fraction = λ i. record { temperature = temperature i; «partial_density» = density i; molefracs = fraction i }
+
+module _ (h : Header) (m : Mixture) (t : State) (rest : List ℕ) where
+  pub header-read : headerOf (recordBytes h m t ++ rest) ≡ h
+  unfolding bytesOf
+  header-read = refl
+
+  pub length-read : h .n ≤ 8 → lengthField (recordBytes h m t ++ rest) ≡ lengthOf h
+  unfolding bytesOf
+  length-read l = bytes.read-written 2 (lengthOf h) [] (h .version ∷ h .perturbation ∷ h .n ∷ (doublesBytes (values (layoutOf h .doubles) (doubleOf h m t)) ++ rest)) (omega (arith, few-doubles h l))
+
+  -- each double of a mixture and a state is one
+  double-fits : Padded (h .n) m t → (k : ℕ) → k < layoutOf h .doubles → T (fits binary64 (doubleOf h m t k))
+  double-fits p =
+      each-place h (λ k. T (fits binary64 (doubleOf h m t k)))
+      (λ j i a b. rw (substance-at h m t j i a b) (field-padded p j .doubles i b))
+      (λ i a. rw (k-ij-at h m t i a) (p .k-ij .doubles i a))
+      (rw (temperature-at h m t) (p .temperature))
+      (λ i a. rw (density-at h m t i a) (p .partial-density .doubles i a))
+      (λ i a. rw (fraction-at h m t i a) (p .molefracs .doubles i a))
+
+  pub double-written : Padded (h .n) m t → (k : ℕ) → k < layoutOf h .doubles → double (recordBytes h m t ++ rest) k ≡ doubleOf h m t k
+  unfolding bytesOf
+  double-written p k l =
+      let f = doubleOf h m t in
+      let d = layoutOf h .doubles in
+      let e : getD (values d f) k nan ≡ f k = value-at d f k l in
+      bytes.read-doubles (values d f) k (headerBytes h) rest (rw length-values l) (rw e (double-fits p k l)) ∙ e
+
+  module _ (p : Padded (h .n) m t) where
+    abbrev s : List ℕ
+    s = recordBytes h m t ++ rest
+
+    row-read : (size n first step : ℕ) (xs : List Float) → PaddedRow size n xs → ((i : ℕ) → i < n → first + step * i < layoutOf h .doubles)
+        → ((i : ℕ) → i < n → doubleOf h m t (first + step * i) ≡ getD xs i nan) → row size n (column s first step) ≡ xs
+    row-read size n first step xs q l e = same-rows size n _ _ (λ i a. double-written p (first + step * i) (l i a) ∙ e i a) ∙ sym (q .padded)
+
+    field-read : (j : ℕ) → j < 4 → row 8 (h .n) (column s j 4) ≡ fieldOf m j
+    field-read j a = row-read 8 (h .n) j 4 (fieldOf m j) (field-padded p j) (λ i b. omega arith) (λ i b. substance-at h m t j i a b)
+
+    pub mixture-read : mixtureOf s h ≡ m
+    unfolding mixtureOf
+    mixture-read = same-mixture (sym (p .count))
+        (field-read 0 (omega arith))
+        (field-read 1 (omega arith))
+        (field-read 2 (omega arith))
+        (field-read 3 (omega arith))
+        (row-read 28 (pairs (h .n)) (layoutOf h .«k_ij») 1 (m .«k_ij») (p .k-ij) (λ i b. omega arith) (k-ij-at h m t))
+
+    pub state-read : stateOf s h ≡ t
+    unfolding stateOf
+    state-read = same-state (double-written p (layoutOf h .temperature) (omega arith) ∙ temperature-at h m t)
+        (row-read 8 (h .n) (layoutOf h .«partial_density») 1 (t .«partial_density») (p .partial-density) (λ i b. omega arith) (density-at h m t))
+        (row-read 8 (h .n) (layoutOf h .molefracs) 1 (t .molefracs) (p .molefracs) (λ i b. omega arith) (fraction-at h m t))
+
+pub record-length : (h : Header) (m : Mixture) (t : State) → length (recordBytes h m t) ≡ 2 + lengthOf h
+unfolding bytesOf
+record-length h m t = let xs = values (layoutOf h .doubles) (doubleOf h m t) in omega (arith, length-doubles xs, length-values (layoutOf h .doubles) (doubleOf h m t))
+
+-- the laws together
+pub read-written : (h : Header) (m : Mixture) (t : State) (rest : List ℕ) → h .n ≤ 8 → Padded (h .n) m t
+    → let s = recordBytes h m t ++ rest in
+    (headerOf s ≡ h) × (mixtureOf s h ≡ m) × (stateOf s h ≡ t) × (lengthField s ≡ lengthOf h) × (length s ≡ 2 + lengthOf h + length rest)
+read-written h m t rest l p = (
+  header-read h m t rest,
+  mixture-read h m t rest p,
+  state-read h m t rest p,
+  length-read h m t rest l,
+  length-append (recordBytes h m t) rest ∙ ap (λ (n : ℕ). n + length rest) (record-length h m t),
+)
