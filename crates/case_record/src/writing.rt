@@ -6,10 +6,10 @@ ghost use lib.Ieee.{nan};
 ghost use Rattle.big_endian.specs.Bytes.{written};
 ghost use Rattle.case_record.specs.Layout.{layoutOf, lengthOf};
 ghost use Rattle.case_record.specs.Writing.{doubleOf, fieldOf, headerBytes, recordBytes};
-use big_endian::put_double;
 use crate::layout::Header;
 use crate::layout::layout_of;
 use crate::layout::length_of;
+use big_endian::put_double;
 use uvtheory::parameters::Mixture;
 use uvtheory::parameters::State;
 
