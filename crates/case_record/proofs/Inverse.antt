@@ -2,7 +2,7 @@
 use Prim.Native.Nat.{ℕ, zero, suc, _+_, _-_, _*_, _≤_, _<_}
 use mathlib.Core.Path.{_≡_, refl, sym, ap, ap₂, _∙_, subst}
 use mathlib.Core.Bool.{not}
-use mathlib.Core.List.{List, [], _∷_, _++_}
+use mathlib.Core.List.{List, [], _∷_, _++_, append-nil}
 use native.Mathlib.Omega.{arith}
 use lib.Dec.{T}
 use lib.ListN.{length, getD, take, drop, length-append, length-drop, take-append-drop}
@@ -14,8 +14,8 @@ use Rattle.big_endian.specs.Bytes.{bytesOf, doublesBytes}
 use Rattle.big_endian.proofs.Inverse as bytes
 use Rattle.big_endian.proofs.Written.{doubles-snoc, length-doubles}
 use Rattle.case_record.specs.declared.layout.Header.{Header}
-use Rattle.case_record.specs.Layout.{headerOf, layoutOf, lengthField, lengthOf, pairs}
-use Rattle.case_record.specs.Record.{column, double, mixtureOf, row, stateOf, values}
+use Rattle.case_record.specs.Layout.{headerOf, layoutOf, lengthField, lengthOf, pairs, perturbationOf}
+use Rattle.case_record.specs.Record.{caseOf, column, double, mixtureOf, row, stateOf, values}
 use Rattle.case_record.specs.Writing.{Padded, PaddedRow, doubleOf, fieldOf, headerBytes, recordBytes}
 use Rattle.case_record.proofs.Rows.{length-values}
 use Rattle.case_record.proofs.Sizes.{few-doubles}
@@ -158,7 +158,7 @@ pub record-length : (h : Header) (m : Mixture) (t : State) → length (recordByt
 unfolding bytesOf
 record-length h m t = let xs = values (layoutOf h .doubles) (doubleOf h m t) in omega (arith, length-doubles xs, length-values (layoutOf h .doubles) (doubleOf h m t))
 
--- the laws together
+-- the laws together, with anything behind the record
 pub read-written : (h : Header) (m : Mixture) (t : State) (rest : List ℕ) → h .n ≤ 8 → Padded (h .n) m t
     → let s = recordBytes h m t ++ rest in
     (headerOf s ≡ h) × (mixtureOf s h ≡ m) × (stateOf s h ≡ t) × (lengthField s ≡ lengthOf h) × (length s ≡ 2 + lengthOf h + length rest)
@@ -169,3 +169,21 @@ read-written h m t rest l p = (
   length-read h m t rest l,
   length-append (recordBytes h m t) rest ∙ ap (λ (n : ℕ). n + length rest) (record-length h m t),
 )
+
+-- and for the record alone
+pub read-alone : (h : Header) (m : Mixture) (t : State) → h .n ≤ 8 → Padded (h .n) m t
+    → let s = recordBytes h m t in (headerOf s ≡ h) × (mixtureOf s h ≡ m) × (stateOf s h ≡ t) × (lengthField s ≡ lengthOf h) × (length s ≡ 2 + lengthOf h)
+read-alone h m t l p =
+    let e : recordBytes h m t ++ [] ≡ recordBytes h m t = append-nil (recordBytes h m t) in (
+      ap headerOf (sym e) ∙ header-read h m t [],
+      ap (λ (s : List ℕ). mixtureOf s h) (sym e) ∙ mixture-read h m t [] p,
+      ap (λ (s : List ℕ). stateOf s h) (sym e) ∙ state-read h m t [] p,
+      ap lengthField (sym e) ∙ length-read h m t [] l,
+      record-length h m t,
+    )
+
+-- the case that is read
+pub case-read : (h : Header) (m : Mixture) (t : State) (rest : List ℕ) → Padded (h .n) m t
+    → caseOf (recordBytes h m t ++ rest) ≡ record { perturbation = perturbationOf (h .perturbation); mixture = m; state = t }
+unfolding bytesOf
+case-read h m t rest p = λ i. record { perturbation = perturbationOf (h .perturbation); mixture = mixture-read h m t rest p i; state = state-read h m t rest p i }
