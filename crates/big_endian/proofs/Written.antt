@@ -1,9 +1,10 @@
 -- Bytes that are written piece by piece over a buffer, and the bytes of a list of doubles.
-use Prim.Native.Nat.{ℕ, zero, suc, _+_, _*_}
+use Prim.Native.Nat.{ℕ, zero, suc, _+_, _*_, _/_, _^_, _<_}
 use mathlib.Core.Path.{_≡_, refl, sym, ap, _∙_}
 use mathlib.Core.List.{List, [], _∷_, _++_, append-assoc, append-nil}
+use native.Mathlib.Nat.{mod-lt}
 use native.Mathlib.Omega.{arith}
-use lib.ListN.{length, take, drop, length-append}
+use lib.ListN.{length, getD, take, drop, length-append}
 use lib.Seq.{take-append-seam, drop-append-add, drop-drop}
 use lib.Ieee.{Float}
 use Rattle.big_endian.specs.Bytes.{bytesOf, doubleBytes, doublesBytes, written}
@@ -33,3 +34,20 @@ extend a b l e f = rw (← e, ← f) (simp (take-append-seam, drop-append-add, d
 -- the bytes a once more, and b behind them
 pub again : (a b l : List ℕ) → written (written l a) (a ++ b) ≡ written l (a ++ b)
 again a b l = simp (drop-append-add, drop-drop, length-append)
+
+-- ---- what is written are bytes
+pub bytes-below : (n count i : ℕ) → getD (bytesOf n count) i 0 < 256
+unfolding bytesOf
+bytes-below n zero i = omega arith
+bytes-below n (suc count) zero = mod-lt (n / 256 ^ count) (omega arith)
+bytes-below n (suc count) (suc i) = bytes-below n count i
+
+pub append-below : (a b : List ℕ) → ((i : ℕ) → getD a i 0 < 256) → ((i : ℕ) → getD b i 0 < 256) → (i : ℕ) → getD (a ++ b) i 0 < 256
+append-below [] b f g i = g i
+append-below (x ∷ a) b f g zero = f 0
+append-below (x ∷ a) b f g (suc i) = append-below a b (λ j. f (suc j)) g i
+
+pub doubles-below : (xs : List Float) (i : ℕ) → getD (doublesBytes xs) i 0 < 256
+unfolding doubleBytes
+doubles-below [] i = omega arith
+doubles-below (x ∷ xs) i = append-below (doubleBytes x) (doublesBytes xs) (bytes-below _ 8) (doubles-below xs) i

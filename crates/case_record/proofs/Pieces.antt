@@ -1,16 +1,16 @@
 -- A record that is written piece by piece: its header, then one double after the other.
-use Prim.Native.Nat.{ℕ, _+_, _*_, _/_, _%_, _<_, _≤_}
+use Prim.Native.Nat.{ℕ, zero, suc, _+_, _*_, _/_, _%_, _<_, _≤_}
 use mathlib.Core.Path.{_≡_, refl, sym, ap, _∙_}
 use mathlib.Core.List.{List, [], _∷_, _++_, append-assoc, append-nil}
 use native.Mathlib.Numerals.{add-one}
 use native.Mathlib.Omega.{arith}
-use lib.ListN.{length, take, drop, length-append, take-append-drop}
+use lib.ListN.{length, getD, take, drop, length-append, take-append-drop}
 use lib.Seq.{length-take-le}
 use lib.Ieee.{Float}
 use Rattle.uvtheory.specs.declared.parameters.Mixture.{Mixture}
 use Rattle.uvtheory.specs.declared.parameters.State.{State}
 use Rattle.big_endian.specs.Bytes.{bytesOf, doubleBytes, doublesBytes, written}
-use Rattle.big_endian.proofs.Written.{length-double, length-doubles, doubles-snoc, extend, again}
+use Rattle.big_endian.proofs.Written.{length-double, length-doubles, doubles-snoc, extend, again, bytes-below, append-below, doubles-below}
 use Rattle.case_record.specs.declared.layout.Header.{Header}
 use Rattle.case_record.specs.Layout.{layoutOf, lengthOf}
 use Rattle.case_record.specs.Record.{values}
@@ -55,3 +55,13 @@ pub whole-record : (l : List ℕ) (h : Header) (m : Mixture) (t : State) {l₁ l
     → l₂ ≡ written l (recordBytes h m t)
 unfolding bytesOf
 whole-record l h m t e₁ e₂ = e₂ ∙ rw e₁ (again (headerBytes h) (doublesBytes (values (layoutOf h .doubles) (doubleOf h m t))) l)
+
+-- what is written are bytes
+pub record-bytes : (h : Header) (m : Mixture) (t : State) → h .version < 256 → h .perturbation < 256 → h .n ≤ 8 → (i : ℕ) → getD (recordBytes h m t) i 0 < 256
+record-bytes h m t v p n = append-below (bytesOf (lengthOf h) 2) _ (bytes-below (lengthOf h) 2) behind
+  where
+    behind : (i : ℕ) → getD (h .version ∷ h .perturbation ∷ h .n ∷ doublesBytes (values (layoutOf h .doubles) (doubleOf h m t))) i 0 < 256
+    behind zero = v
+    behind (suc zero) = p
+    behind (suc (suc zero)) = omega arith
+    behind (suc (suc (suc i))) = doubles-below (values (layoutOf h .doubles) (doubleOf h m t)) i

@@ -29,10 +29,11 @@ doubleOf h m t k =
     (cond (ltb k (l .«partial_density»)) (t .temperature)
     (cond (ltb k (l .molefracs)) (getD (t .«partial_density») (k - l .«partial_density») nan) (getD (t .molefracs) (k - l .molefracs) nan))))
 
--- length; version, perturbation, n; the doubles
+-- "Length is 2 bytes, big-endian, and counts what follows it. Then: version (1 byte ..); perturbation (1 byte ..); n (1 byte)"
 abbrev pub headerBytes : Header → List ℕ
 headerBytes h = bytesOf (lengthOf h) 2 ++ (h .version ∷ h .perturbation ∷ h .n ∷ [])
 
+-- the same, and the doubles
 abbrev pub recordBytes : Header → Mixture → State → List ℕ
 recordBytes h m t = bytesOf (lengthOf h) 2 ++ (h .version ∷ h .perturbation ∷ h .n ∷ doublesBytes (values (layoutOf h .doubles) (doubleOf h m t)))
 
