@@ -1,12 +1,12 @@
 -- The values of a list that is given by a function, and of an array with +0 behind them.
-use Prim.Native.Nat.{ℕ, zero, suc, _+_, _-_, _≤_, _<_}
+use Prim.Native.Nat.{ℕ, zero, suc, _-_, _≤_, _<_}
 use mathlib.Core.Path.{_≡_, refl, sym, ap, ap₂, _∙_, subst}
 use mathlib.Core.Logic.{_⊎_, inl, inr}
 use mathlib.Core.List.{List, [], _∷_, _++_}
 use native.Mathlib.Decide.{decLt}
 use native.Mathlib.Omega.{arith}
 use lib.Dec.{T}
-use lib.ListN.{length, getD, replicate, List·getD-append}
+use lib.ListN.{getD, replicate, List·getD-append}
 use lib.Seq.{getD-at}
 use lib.Ieee.{Float, binary64, fits, nan}
 use Rattle.arithmetic.specs.Constants.{zeroD}

@@ -1,12 +1,12 @@
 -- By the part of the layout that k lies in.
-use Prim.Native.Nat.{ℕ, _+_, _-_, _*_, _≤_}
+use Prim.Native.Nat.{_+_, _-_, _*_, _≤_}
 use mathlib.Core.Path.{_≡_, refl, sym, ap, _∙_}
 use native.Mathlib.Omega.{arith}
 use borrow.Author.Needs.{needs}
 use lib.ListN.{getD}
 use lib.Ieee.{nan}
 use Rattle.case_record.specs.declared.layout.Layout.{Layout}
-use Rattle.case_record.specs.Layout.{layoutOf, pairs}
+use Rattle.case_record.specs.Layout.{pairs}
 use Rattle.case_record.proofs.Sizes.{few-pairs}
 use Rattle.case_record.proofs.Places.{in-substances, in-k-ij, in-temperature, in-densities, in-fractions}
 use Rattle.case_record.proofs.writing.double_of.Statement.{statement}

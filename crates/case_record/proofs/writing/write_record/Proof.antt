@@ -1,12 +1,11 @@
 -- The loop's invariant: behind the header stand the first k doubles.
 use Prim.Native.Nat.{_-_, _≤_}
-use mathlib.Core.Path.{_≡_, refl, ap, _∙_}
+use mathlib.Core.Path.{_≡_, refl, ap}
 use mathlib.Core.List.{_++_}
 use native.Mathlib.Omega.{arith}
 use borrow.Author.Needs.{needs}
-use lib.Ieee.{Float}
-use lib.ListN.{length, take, drop}
-use Rattle.big_endian.specs.Bytes.{doubleBytes, doublesBytes, written}
+use lib.ListN.{length, take}
+use Rattle.big_endian.specs.Bytes.{doublesBytes, written}
 use Rattle.case_record.specs.declared.layout.Layout.{Layout}
 use Rattle.case_record.specs.Layout.{layoutOf}
 use Rattle.case_record.specs.Record.{values}
