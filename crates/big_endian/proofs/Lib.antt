@@ -1,3 +1,5 @@
 -- Laws of the definitions.
 pub mod Digits
 pub mod Patterns
+pub mod Written
+pub mod Inverse
