@@ -1,13 +1,15 @@
 -- The sums over arrays that hold the formulas' values are the formulas' sums.
-use Prim.Native.Nat.{ℕ, _*_, _/_, _%_, _<_}
+use Prim.Native.Nat.{ℕ, _*_, _/_, _%_, _<_, _≤_}
 use mathlib.Core.Path.{_≡_, refl, ap, ap₂, _∙_}
 use mathlib.Core.List.{List}
-use lib.ListN.{getD}
+use lib.ListN.{getD, replicate, getD-replicate}
+use native.Mathlib.Omega.{arith}
 use lib.Ieee.{Float, nan}
 use Rattle.arithmetic.specs.Arithmetic.{Arithmetic}
 use Rattle.arithmetic.specs.Doubles.{guarded}
 use Rattle.uvtheory.specs.declared.parameters.Mixture.{Mixture}
 use Rattle.uvtheory.specs.declared.parameters.Combined.{Combined}
+use Rattle.uvtheory.specs.Literals.{FRAC-PI-6}
 use Rattle.uvtheory.specs.Parameters.{State}
 use Rattle.uvtheory.specs.Rows.{rowOf, matrixOf, RowOf, MatrixOf, row, matrix, Row, Matrix}
 use Rattle.uvtheory.specs.Inputs.{parameters}
@@ -30,17 +32,24 @@ module _ (A : Arithmetic) (adds : Adds A) where
     unfolding O.mean-cube
     mean-cube-of = sum-ext A adds n _ _ (λ i l. ap (λ (v : Value). A .mul (w i) (A .powi v 3)) (h i l))
 
-    pub weighted-zeta-of : (k : ℕ) → S.weighted-zeta A n (rowOf none xs) w k ≡ S.weighted-zeta A n f w k
-    unfolding S.weighted-zeta
-    weighted-zeta-of k = sum-ext A adds n _ _ (λ i l. rw (h i l))
-
     pub packing-fraction-of : P.packing-fraction A n w (rowOf none xs) ≡ P.packing-fraction A n w f
     unfolding P.packing-fraction
     packing-fraction-of = sum-ext A adds n _ _ (λ i l. rw (h i l))
 
-  pub hard-sphere-of : (none : Value) (n : ℕ) (s : State Value) (xs : List Value) (f : ℕ → Value) → RowOf none n xs f → S.helmholtz-energy-density A n (rowOf none xs) s ≡ S.helmholtz-energy-density A n f s
-  unfolding S.helmholtz-energy-density
-  hard-sphere-of none n s xs f h = let z = weighted-zeta-of none n (s .molefracs) xs f h in rw (z 0, z 1, z 2, z 3)
+  -- by arrays of units and of diameters, of which the first n count
+  module _ (none : Value) (n : ℕ) (us : List Value) (u : ℕ → Value) (units : RowOf none n us u) (xs : List Value) (f : ℕ → Value) (h : RowOf none n xs f) where
+    pub weighted-zeta-of : (w : ℕ → Value) (k : ℕ) → S.weighted-zeta A n (rowOf none us) (rowOf none xs) w k ≡ S.weighted-zeta A n u f w k
+    unfolding S.weighted-zeta
+    weighted-zeta-of w k = sum-ext A adds n _ _ (λ i l. rw (h i l, units i l))
+
+    pub hard-sphere-of : (s : State Value) → S.helmholtz-energy-density A n (rowOf none us) (rowOf none xs) s ≡ S.helmholtz-energy-density A n u f s
+    unfolding S.helmholtz-energy-density
+    hard-sphere-of s = let z = weighted-zeta-of (s .molefracs) in rw (z 0, z 1, z 2, z 3)
+
+  -- of spheres: the unit u eight times
+  pub spherical-of : (none u : Value) → u ≡ A .constant FRAC-PI-6 → (n : ℕ) → n ≤ 8 → (xs : List Value) (f : ℕ → Value) → RowOf none n xs f
+      → (s : State Value) → S.helmholtz-energy-density A n (rowOf none (replicate 8 u)) (rowOf none xs) s ≡ S.helmholtz-energy-density A n (S.spherical A) f s
+  spherical-of none u e n few = hard-sphere-of none n (replicate 8 u) (S.spherical A) (λ i l. getD-replicate 8 i u none (omega (arith, few, l)) ∙ e)
 
   -- over the pairs
   module _ (n : ℕ) (x : ℕ → Value) where

@@ -13,7 +13,7 @@ use Rattle.uvtheory.specs.Bh.AttractivePerturbation as Attractive
 module _ (A : Arithmetic) where
   abbrev pub residual-helmholtz-energy-contributions : UVTheoryPars (A .Value) → State (A .Value) → Contributions (A .Value)
   residual-helmholtz-energy-contributions p state = record {
-    hard-sphere = Spheres.helmholtz-energy-density A (p .n) (diameter-bh A p (state .temperature)) state;
+    hard-sphere = Spheres.helmholtz-energy-density A (p .n) (Spheres.spherical A) (diameter-bh A p (state .temperature)) state;
     reference = Reference.helmholtz-energy-density A p state;
     attractive = Attractive.helmholtz-energy-density A p state;
   }

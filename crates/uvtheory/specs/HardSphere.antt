@@ -1,4 +1,4 @@
--- hard_sphere/mod.rs, `MonomerShape::Spherical`: the hard-sphere term (Boublík; Mansoori et al.).
+-- hard_sphere/mod.rs: the hard-sphere term (Boublík; Mansoori et al.).
 use Prim.Native.Nat.{ℕ}
 use Rattle.arithmetic.specs.Arithmetic.{Arithmetic}
 use Rattle.arithmetic.specs.Sums.{recip}
@@ -12,8 +12,12 @@ module _ (A : Arithmetic) where
   infixl 70 _*_ _/_
   infix 80 -_
   infix 90 _^_
-  unfoldable pub weighted-zeta : ℕ → (ℕ → Value) → (ℕ → Value) → ℕ → Value
-  weighted-zeta n diameter weights k = sum n (λ i. weights i * diameter i ^ k * constant FRAC-PI-6)
+  -- `MonomerShape::Spherical`: the unit of each component
+  abbrev pub spherical : ℕ → Value
+  spherical i = constant FRAC-PI-6
+
+  unfoldable pub weighted-zeta : ℕ → (ℕ → Value) → (ℕ → Value) → (ℕ → Value) → ℕ → Value
+  weighted-zeta n unit diameter weights k = sum n (λ i. weights i * diameter i ^ k * unit i)
 
   -- of the four zeta of the fractions, and the density
   unfoldable pub bmcsl : Value → Value → Value → Value → Value → Value
@@ -26,7 +30,7 @@ module _ (A : Arithmetic) where
       let frac-1mz3 = - recip A (zeta3 - constant one) in
       (zeta1 * zeta2 * frac-1mz3 * constant three + zeta2 ^ 2 * frac-1mz3 ^ 2 * zeta-23 + (zeta2 * zeta-23 ^ 2 - zeta0) * ln1p (- zeta3)) / constant FRAC-PI-6
 
-  unfoldable pub helmholtz-energy-density : ℕ → (ℕ → Value) → State Value → Value
-  helmholtz-energy-density n diameter state =
-      let zeta = weighted-zeta n diameter (state .molefracs) in
+  unfoldable pub helmholtz-energy-density : ℕ → (ℕ → Value) → (ℕ → Value) → State Value → Value
+  helmholtz-energy-density n unit diameter state =
+      let zeta = weighted-zeta n unit diameter (state .molefracs) in
       bmcsl (zeta 0) (zeta 1) (zeta 2) (zeta 3) (sum n (state .partial-density))

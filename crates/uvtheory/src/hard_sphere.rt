@@ -1,4 +1,4 @@
-// hard_sphere/mod.rs, MonomerShape::Spherical: the hard-sphere term.
+// hard_sphere/mod.rs: the hard-sphere term.
 use crate::consts::FRAC_PI_6;
 use crate::parameters::State;
 use elementary::logarithm::ln_1p;
@@ -18,12 +18,12 @@ pub struct Zeta {
     pub z3: f64,
 }
 
-pub fn weighted_zeta(n: usize, diameter: &[f64; 8], weights: &[f64; 8]) -> Zeta
+pub fn weighted_zeta(n: usize, unit: &[f64; 8], diameter: &[f64; 8], weights: &[f64; 8]) -> Zeta
     requires { ⌜ n ≤ 8 ⌝ }
-    ensures { λ r. ⌜ (r .z0 ≡ F.weighted-zeta guarded n (row (now (diameter .entry))) (row (now (weights .entry))) 0)
-        × (r .z1 ≡ F.weighted-zeta guarded n (row (now (diameter .entry))) (row (now (weights .entry))) 1)
-        × (r .z2 ≡ F.weighted-zeta guarded n (row (now (diameter .entry))) (row (now (weights .entry))) 2)
-        × (r .z3 ≡ F.weighted-zeta guarded n (row (now (diameter .entry))) (row (now (weights .entry))) 3) ⌝ }
+    ensures { λ r. ⌜ (r .z0 ≡ F.weighted-zeta guarded n (row (now (unit .entry))) (row (now (diameter .entry))) (row (now (weights .entry))) 0)
+        × (r .z1 ≡ F.weighted-zeta guarded n (row (now (unit .entry))) (row (now (diameter .entry))) (row (now (weights .entry))) 1)
+        × (r .z2 ≡ F.weighted-zeta guarded n (row (now (unit .entry))) (row (now (diameter .entry))) (row (now (weights .entry))) 2)
+        × (r .z3 ≡ F.weighted-zeta guarded n (row (now (unit .entry))) (row (now (diameter .entry))) (row (now (weights .entry))) 3) ⌝ }
 {
     let mut z0 = 0.0;
     let mut z1 = 0.0;
@@ -33,10 +33,11 @@ pub fn weighted_zeta(n: usize, diameter: &[f64; 8], weights: &[f64; 8]) -> Zeta
     while i < n {
         let w = weights[i];
         let d = diameter[i];
-        z0 = z0 + w * 1.0 * FRAC_PI_6;
-        z1 = z1 + w * d * FRAC_PI_6;
-        z2 = z2 + w * (d * d) * FRAC_PI_6;
-        z3 = z3 + w * (d * d * d) * FRAC_PI_6;
+        let u = unit[i];
+        z0 = z0 + w * 1.0 * u;
+        z1 = z1 + w * d * u;
+        z2 = z2 + w * (d * d) * u;
+        z3 = z3 + w * (d * d * d) * u;
         i += 1;
     }
     Zeta { z0, z1, z2, z3 }
@@ -72,11 +73,17 @@ pub fn bmcsl(z: Zeta, density: f64) -> f64
     div(a, FRAC_PI_6)
 }
 
-// By the diameters and the density.
-pub fn helmholtz_energy_density(n: usize, diameter: &[f64; 8], s: State, density: f64) -> f64
+// By the units, the diameters and the density.
+pub fn helmholtz_energy_density(
+    n: usize,
+    unit: &[f64; 8],
+    diameter: &[f64; 8],
+    s: State,
+    density: f64,
+) -> f64
     requires { ⌜ (n ≤ 8) × (density ≡ guarded .sum n (row (s .«partial_density»))) ⌝ }
-    ensures { λ r. ⌜ r ≡ F.helmholtz-energy-density guarded n (row (now (diameter .entry))) (state guarded s) ⌝ }
+    ensures { λ r. ⌜ r ≡ F.helmholtz-energy-density guarded n (row (now (unit .entry))) (row (now (diameter .entry))) (state guarded s) ⌝ }
 {
     let x = s.molefracs;
-    bmcsl(weighted_zeta(n, diameter, &x), density)
+    bmcsl(weighted_zeta(n, unit, diameter, &x), density)
 }

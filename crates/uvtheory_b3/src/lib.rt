@@ -1,6 +1,7 @@
 // uvtheory/eos/wca: the contributions of the B3 form.
 pub mod attractive_perturbation_uvb3;
 
+use uvtheory::consts::FRAC_PI_6;
 use uvtheory::contributions::Contributions;
 use uvtheory::hard_sphere::sum;
 use uvtheory::parameters::Mixture;
@@ -23,13 +24,14 @@ pub fn residual_helmholtz_energy_contributions_b3(m: Mixture, s: State) -> Contr
 {
     let n = m.n;
     let partial_density = s.partial_density;
+    let unit = [FRAC_PI_6; 8];
     let c = combine(m);
     let r = component_lengths(m, s.temperature);
     let l = pair_lengths(n, c, s.temperature);
     let d = r.d;
     let density = sum(n, &partial_density);
     Contributions {
-        hard_sphere: uvtheory::hard_sphere::helmholtz_energy_density(n, &d, s, density),
+        hard_sphere: uvtheory::hard_sphere::helmholtz_energy_density(n, &unit, &d, s, density),
         reference: uvtheory_wca::reference_perturbation::helmholtz_energy_density(
             WCA_CONSTANTS_ETA_A_UVB3,
             WCA_CONSTANTS_ETA_B_UVB3,

@@ -4,6 +4,7 @@ pub mod hard_sphere;
 pub mod reference_perturbation;
 
 use crate::hard_sphere::diameter_bh;
+use uvtheory::consts::FRAC_PI_6;
 use uvtheory::contributions::Contributions;
 use uvtheory::hard_sphere::sum;
 use uvtheory::parameters::Mixture;
@@ -22,11 +23,12 @@ pub fn residual_helmholtz_energy_contributions(m: Mixture, s: State) -> Contribu
 {
     let n = m.n;
     let partial_density = s.partial_density;
+    let unit = [FRAC_PI_6; 8];
     let c = combine(m);
     let d = diameter_bh(m, s.temperature);
     let density = sum(n, &partial_density);
     Contributions {
-        hard_sphere: uvtheory::hard_sphere::helmholtz_energy_density(n, &d, s, density),
+        hard_sphere: uvtheory::hard_sphere::helmholtz_energy_density(n, &unit, &d, s, density),
         reference: reference_perturbation::helmholtz_energy_density(m, s, c, &d, density),
         attractive: attractive_perturbation::helmholtz_energy_density(m, s, c, &d, density),
     }

@@ -1,5 +1,5 @@
 // Written by tools/copies from crates/uvtheory_range/src/hard_sphere.rt.
-// hard_sphere/mod.rs, MonomerShape::Spherical, on values with slopes: the hard-sphere term.
+// hard_sphere/mod.rs on values with slopes: the hard-sphere term.
 use crate::parameters::State;
 use dual::basic::Dual;
 use dual::logarithm::ln_1p;
@@ -11,15 +11,21 @@ ghost use Rattle.uvtheory.specs.HardSphere as F;
 ghost use Rattle.uvtheory_dual.specs.Rows.{row, state};
 
 // The zeta of the fractions with the diameters to the k.
-pub fn weighted_zeta(n: usize, diameter: [Dual; 8], weights: [Dual; 8], k: u64) -> Dual
+pub fn weighted_zeta(
+    n: usize,
+    unit: [Dual; 8],
+    diameter: [Dual; 8],
+    weights: [Dual; 8],
+    k: u64,
+) -> Dual
     requires { ⌜ n ≤ 8 ⌝ }
-    ensures { λ r. ⌜ r ≡ F.weighted-zeta guardedSlopes n (row diameter) (row weights) k ⌝ }
+    ensures { λ r. ⌜ r ≡ F.weighted-zeta guardedSlopes n (row unit) (row diameter) (row weights) k ⌝ }
 {
     let mut z = Dual::ZERO;
     let mut i = 0;
     while i < n {
         let w = weights[i].mul(diameter[i].powi(k));
-        z = z.add(w.mul(Dual::constant(FRAC_PI_6)));
+        z = z.add(w.mul(unit[i]));
         i += 1;
     }
     z
@@ -58,15 +64,21 @@ pub fn bmcsl(z0: Dual, z1: Dual, z2: Dual, z3: Dual, density: Dual) -> Dual
     a.add(b).add(c).div(Dual::constant(FRAC_PI_6))
 }
 
-// By the diameters and the density.
-pub fn helmholtz_energy_density(n: usize, diameter: [Dual; 8], s: State, density: Dual) -> Dual
+// By the units, the diameters and the density.
+pub fn helmholtz_energy_density(
+    n: usize,
+    unit: [Dual; 8],
+    diameter: [Dual; 8],
+    s: State,
+    density: Dual,
+) -> Dual
     requires { ⌜ (n ≤ 8) × (density ≡ guardedSlopes .sum n (row (s .«partial_density»))) ⌝ }
-    ensures { λ r. ⌜ r ≡ F.helmholtz-energy-density guardedSlopes n (row diameter) (state s) ⌝ }
+    ensures { λ r. ⌜ r ≡ F.helmholtz-energy-density guardedSlopes n (row unit) (row diameter) (state s) ⌝ }
 {
     let x = s.molefracs;
-    let z0 = weighted_zeta(n, diameter, x, 0);
-    let z1 = weighted_zeta(n, diameter, x, 1);
-    let z2 = weighted_zeta(n, diameter, x, 2);
-    let z3 = weighted_zeta(n, diameter, x, 3);
+    let z0 = weighted_zeta(n, unit, diameter, x, 0);
+    let z1 = weighted_zeta(n, unit, diameter, x, 1);
+    let z2 = weighted_zeta(n, unit, diameter, x, 2);
+    let z3 = weighted_zeta(n, unit, diameter, x, 3);
     bmcsl(z0, z1, z2, z3, density)
 }

@@ -2,6 +2,8 @@
 // uvtheory/eos/wca on values with slopes: the contributions of the B3 form.
 pub mod attractive_perturbation_uvb3;
 
+use dual::basic::Dual;
+use uvtheory::consts::FRAC_PI_6;
 use uvtheory::parameters::Mixture;
 use uvtheory_dual::contributions::Contributions;
 use uvtheory_dual::hard_sphere::sum;
@@ -25,6 +27,7 @@ pub fn residual_helmholtz_energy_contributions_b3(m: Mixture, s: State) -> Contr
 {
     let n = m.n;
     let partial_density = s.partial_density;
+    let unit = [Dual::constant(FRAC_PI_6); 8];
     let c = combine(m);
     let t = s.temperature;
     let r = component_lengths(m, t);
@@ -32,7 +35,7 @@ pub fn residual_helmholtz_energy_contributions_b3(m: Mixture, s: State) -> Contr
     let d = r.d;
     let density = sum(n, partial_density);
     Contributions {
-        hard_sphere: uvtheory_dual::hard_sphere::helmholtz_energy_density(n, d, s, density),
+        hard_sphere: uvtheory_dual::hard_sphere::helmholtz_energy_density(n, unit, d, s, density),
         reference: uvtheory_dual_wca::reference_perturbation::helmholtz_energy_density(
             WCA_CONSTANTS_ETA_A_UVB3,
             WCA_CONSTANTS_ETA_B_UVB3,

@@ -6,6 +6,8 @@ pub mod reference_perturbation;
 
 use crate::hard_sphere::component_lengths;
 use crate::hard_sphere::pair_lengths;
+use dual::basic::Dual;
+use uvtheory::consts::FRAC_PI_6;
 use uvtheory::parameters::Mixture;
 use uvtheory_dual::contributions::Contributions;
 use uvtheory_dual::hard_sphere::sum;
@@ -27,6 +29,7 @@ pub fn residual_helmholtz_energy_contributions(m: Mixture, s: State) -> Contribu
 {
     let n = m.n;
     let partial_density = s.partial_density;
+    let unit = [Dual::constant(FRAC_PI_6); 8];
     let c = combine(m);
     let t = s.temperature;
     let r = component_lengths(m, t);
@@ -34,7 +37,7 @@ pub fn residual_helmholtz_energy_contributions(m: Mixture, s: State) -> Contribu
     let d = r.d;
     let density = sum(n, partial_density);
     Contributions {
-        hard_sphere: uvtheory_dual::hard_sphere::helmholtz_energy_density(n, d, s, density),
+        hard_sphere: uvtheory_dual::hard_sphere::helmholtz_energy_density(n, unit, d, s, density),
         reference: reference_perturbation::helmholtz_energy_density(
             WCA_CONSTANTS_ETA_A,
             WCA_CONSTANTS_ETA_B,

@@ -1,4 +1,4 @@
-// hard_sphere/mod.rs, MonomerShape::Spherical, on ranges: the hard-sphere term.
+// hard_sphere/mod.rs on ranges: the hard-sphere term.
 use crate::parameters::State;
 use range::basic::Range;
 use range_elementary::logarithm::ln_1p;
@@ -10,15 +10,21 @@ ghost use Rattle.uvtheory.specs.HardSphere as F;
 ghost use Rattle.uvtheory_range.specs.Rows.{row, state};
 
 // The zeta of the fractions with the diameters to the k.
-pub fn weighted_zeta(n: usize, diameter: [Range; 8], weights: [Range; 8], k: u64) -> Range
+pub fn weighted_zeta(
+    n: usize,
+    unit: [Range; 8],
+    diameter: [Range; 8],
+    weights: [Range; 8],
+    k: u64,
+) -> Range
     requires { ⌜ n ≤ 8 ⌝ }
-    ensures { λ r. ⌜ r ≡ F.weighted-zeta ranges n (row diameter) (row weights) k ⌝ }
+    ensures { λ r. ⌜ r ≡ F.weighted-zeta ranges n (row unit) (row diameter) (row weights) k ⌝ }
 {
     let mut z = Range::ZERO;
     let mut i = 0;
     while i < n {
         let w = weights[i].mul(diameter[i].powi(k));
-        z = z.add(w.mul(Range::constant(FRAC_PI_6)));
+        z = z.add(w.mul(unit[i]));
         i += 1;
     }
     z
@@ -57,15 +63,21 @@ pub fn bmcsl(z0: Range, z1: Range, z2: Range, z3: Range, density: Range) -> Rang
     a.add(b).add(c).div(Range::constant(FRAC_PI_6))
 }
 
-// By the diameters and the density.
-pub fn helmholtz_energy_density(n: usize, diameter: [Range; 8], s: State, density: Range) -> Range
+// By the units, the diameters and the density.
+pub fn helmholtz_energy_density(
+    n: usize,
+    unit: [Range; 8],
+    diameter: [Range; 8],
+    s: State,
+    density: Range,
+) -> Range
     requires { ⌜ (n ≤ 8) × (density ≡ ranges .sum n (row (s .«partial_density»))) ⌝ }
-    ensures { λ r. ⌜ r ≡ F.helmholtz-energy-density ranges n (row diameter) (state s) ⌝ }
+    ensures { λ r. ⌜ r ≡ F.helmholtz-energy-density ranges n (row unit) (row diameter) (state s) ⌝ }
 {
     let x = s.molefracs;
-    let z0 = weighted_zeta(n, diameter, x, 0);
-    let z1 = weighted_zeta(n, diameter, x, 1);
-    let z2 = weighted_zeta(n, diameter, x, 2);
-    let z3 = weighted_zeta(n, diameter, x, 3);
+    let z0 = weighted_zeta(n, unit, diameter, x, 0);
+    let z1 = weighted_zeta(n, unit, diameter, x, 1);
+    let z2 = weighted_zeta(n, unit, diameter, x, 2);
+    let z3 = weighted_zeta(n, unit, diameter, x, 3);
     bmcsl(z0, z1, z2, z3, density)
 }

@@ -1,6 +1,8 @@
 // uvtheory/eos/wca on ranges: the contributions of the B3 form.
 pub mod attractive_perturbation_uvb3;
 
+use range::basic::Range;
+use uvtheory::consts::FRAC_PI_6;
 use uvtheory::parameters::Mixture;
 use uvtheory_range::contributions::Contributions;
 use uvtheory_range::hard_sphere::sum;
@@ -24,6 +26,7 @@ pub fn residual_helmholtz_energy_contributions_b3(m: Mixture, s: State) -> Contr
 {
     let n = m.n;
     let partial_density = s.partial_density;
+    let unit = [Range::constant(FRAC_PI_6); 8];
     let c = combine(m);
     let t = s.temperature;
     let r = component_lengths(m, t);
@@ -31,7 +34,7 @@ pub fn residual_helmholtz_energy_contributions_b3(m: Mixture, s: State) -> Contr
     let d = r.d;
     let density = sum(n, partial_density);
     Contributions {
-        hard_sphere: uvtheory_range::hard_sphere::helmholtz_energy_density(n, d, s, density),
+        hard_sphere: uvtheory_range::hard_sphere::helmholtz_energy_density(n, unit, d, s, density),
         reference: uvtheory_range_wca::reference_perturbation::helmholtz_energy_density(
             WCA_CONSTANTS_ETA_A_UVB3,
             WCA_CONSTANTS_ETA_B_UVB3,

@@ -4,6 +4,8 @@ pub mod hard_sphere;
 pub mod reference_perturbation;
 
 use crate::hard_sphere::diameter_bh;
+use range::basic::Range;
+use uvtheory::consts::FRAC_PI_6;
 use uvtheory::parameters::Mixture;
 use uvtheory_range::contributions::Contributions;
 use uvtheory_range::hard_sphere::sum;
@@ -23,12 +25,13 @@ pub fn residual_helmholtz_energy_contributions(m: Mixture, s: State) -> Contribu
 {
     let n = m.n;
     let partial_density = s.partial_density;
+    let unit = [Range::constant(FRAC_PI_6); 8];
     let c = combine(m);
     let t = s.temperature;
     let d = diameter_bh(m, t);
     let density = sum(n, partial_density);
     Contributions {
-        hard_sphere: uvtheory_range::hard_sphere::helmholtz_energy_density(n, d, s, density),
+        hard_sphere: uvtheory_range::hard_sphere::helmholtz_energy_density(n, unit, d, s, density),
         reference: reference_perturbation::helmholtz_energy_density(m, s, c, d, density),
         attractive: attractive_perturbation::helmholtz_energy_density(m, s, c, d, density),
     }

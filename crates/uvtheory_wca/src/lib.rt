@@ -7,6 +7,7 @@ use crate::hard_sphere::WCA_CONSTANTS_ETA_A;
 use crate::hard_sphere::WCA_CONSTANTS_ETA_B;
 use crate::hard_sphere::component_lengths;
 use crate::hard_sphere::pair_lengths;
+use uvtheory::consts::FRAC_PI_6;
 use uvtheory::contributions::Contributions;
 use uvtheory::hard_sphere::sum;
 use uvtheory::parameters::Mixture;
@@ -25,13 +26,14 @@ pub fn residual_helmholtz_energy_contributions(m: Mixture, s: State) -> Contribu
 {
     let n = m.n;
     let partial_density = s.partial_density;
+    let unit = [FRAC_PI_6; 8];
     let c = combine(m);
     let r = component_lengths(m, s.temperature);
     let l = pair_lengths(n, c, s.temperature);
     let d = r.d;
     let density = sum(n, &partial_density);
     Contributions {
-        hard_sphere: uvtheory::hard_sphere::helmholtz_energy_density(n, &d, s, density),
+        hard_sphere: uvtheory::hard_sphere::helmholtz_energy_density(n, &unit, &d, s, density),
         reference: reference_perturbation::helmholtz_energy_density(
             WCA_CONSTANTS_ETA_A,
             WCA_CONSTANTS_ETA_B,

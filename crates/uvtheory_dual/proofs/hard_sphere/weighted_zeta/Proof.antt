@@ -6,7 +6,6 @@ use borrow.Author.Needs.{needs}
 use Rattle.arithmetic.specs.Arithmetic.{sumBy}
 use Rattle.dual.specs.Rules.{guardedSlopes}
 use Rattle.dual.proofs.Constants.{zero-constant}
-use Rattle.uvtheory.specs.Literals as N
 use Rattle.uvtheory.specs.HardSphere as F
 use Rattle.uvtheory.proofs.Loops.{sum-step}
 use Rattle.uvtheory_dual.specs.Rows.{row}
@@ -14,10 +13,10 @@ use Rattle.uvtheory_dual.proofs.hard_sphere.weighted_zeta.Statement.{st
 use Rattle.uvtheory_dual.proofs.hard_sphere.weighted_zeta.Tie as tie
 
 abbrev Inv-loop : tie.InvT-loop
-Inv-loop n k diameter weights z₀ i₀ z i = (i ≤ n) × (z ≡ guardedSlopes .sum i (λ j. guardedSlopes .mul (guardedSlopes .mul (row weights j) (guardedSlopes .powi (row diameter j) k)) (guardedSlopes .constant N.FRAC-PI-6)))
+Inv-loop n k unit diameter weights z₀ i₀ z i = (i ≤ n) × (z ≡ guardedSlopes .sum i (λ j. guardedSlopes .mul (guardedSlopes .mul (row weights j) (guardedSlopes .powi (row diameter j) k)) (row unit j)))
 
 abbrev μ-loop : tie.MeasureT-loop
-μ-loop n k diameter weights z₀ i₀ z i = n - i
+μ-loop n k unit diameter weights z₀ i₀ z i = n - i
 
 loop-holds : tie.Need-loop-holds Inv-loop μ-loop
 unfolding sumBy
@@ -29,7 +28,6 @@ loop-again c = (
   rw (
     c .add .ensures,
     c .before .mul2 .ensures,
-    c .before .before .constant .ensures,
     c .before .before .before .mul .ensures,
     c .before .before .before .before .powi .ensures,
     c .before .before .before .before .before .before .before .before .loop .inv .1,
@@ -45,4 +43,4 @@ pub weighted-zeta-spec : {M : Type 1} → statement M
 weighted-zeta-spec =
     tie.close
     (tie.spec Inv-loop μ-loop loop-holds (λ c. search needs) (λ c. search needs) (λ c. search needs) (λ c. search needs) (λ c κs. tt) (λ c κs. tt)
-    (λ c κs. tt) (λ c κs. tt) (λ c κs. tt) (λ c. search needs) (λ c. search needs) loop-again returns)
+    (λ c. search needs) (λ c. search needs) (λ c κs. tt) (λ c κs. tt) (λ c. search needs) (λ c. search needs) loop-again returns)

@@ -5,7 +5,6 @@ use borrow.Author.Needs.{needs}
 use Rattle.arithmetic.specs.Arithmetic.{sumBy}
 use Rattle.range.specs.Rules.{ranges}
 use Rattle.range.proofs.Constants.{zero-constant}
-use Rattle.uvtheory.specs.Literals as N
 use Rattle.uvtheory.specs.HardSphere as F
 use Rattle.uvtheory.proofs.Loops.{sum-step}
 use Rattle.uvtheory_range.specs.Rows.{row}
@@ -13,10 +12,10 @@ use Rattle.uvtheory_range.proofs.hard_sphere.weighted_zeta.Statement.{s
 use Rattle.uvtheory_range.proofs.hard_sphere.weighted_zeta.Tie as tie
 
 abbrev Inv-loop : tie.InvT-loop
-Inv-loop n k diameter weights z₀ i₀ z i = (i ≤ n) × (z ≡ ranges .sum i (λ j. ranges .mul (ranges .mul (row weights j) (ranges .powi (row diameter j) k)) (ranges .constant N.FRAC-PI-6)))
+Inv-loop n k unit diameter weights z₀ i₀ z i = (i ≤ n) × (z ≡ ranges .sum i (λ j. ranges .mul (ranges .mul (row weights j) (ranges .powi (row diameter j) k)) (row unit j)))
 
 abbrev μ-loop : tie.MeasureT-loop
-μ-loop n k diameter weights z₀ i₀ z i = n - i
+μ-loop n k unit diameter weights z₀ i₀ z i = n - i
 
 loop-holds : tie.Need-loop-holds Inv-loop μ-loop
 unfolding sumBy
@@ -28,7 +27,6 @@ loop-again c = (
   rw (
     c .add .ensures,
     c .before .mul2 .ensures,
-    c .before .before .constant .ensures,
     c .before .before .before .mul .ensures,
     c .before .before .before .before .powi .ensures,
     c .before .before .before .before .before .before .before .before .loop .inv .1,
@@ -44,4 +42,4 @@ pub weighted-zeta-spec : {M : Type 1} → statement M
 weighted-zeta-spec =
     tie.close
     (tie.spec Inv-loop μ-loop loop-holds (λ c. search needs) (λ c. search needs) (λ c. search needs) (λ c. search needs) (λ c κs. tt) (λ c κs. tt)
-    (λ c κs. tt) (λ c κs. tt) (λ c κs. tt) (λ c. search needs) (λ c. search needs) loop-again returns)
+    (λ c. search needs) (λ c. search needs) (λ c κs. tt) (λ c κs. tt) (λ c. search needs) (λ c. search needs) loop-again returns)
