@@ -8,29 +8,9 @@ use lib.ListN.{length, getD, take, drop, length-append, take-append-drop}
 use lib.Seq.{take-append-seam, drop-append-add, drop-drop, take-suc, take-length, length-take-le}
 use lib.Ieee.{Float, nan}
 use Rattle.big_endian.specs.Bytes.{bytesOf, doubleBytes, doublesBytes, written}
+use Rattle.big_endian.proofs.Written.{length-double, length-doubles, doubles-snoc, extend, again}
 use Rattle.answer.specs.declared.Answer.{Answer}
 use Rattle.answer.specs.Answer.{answerBytes, answerWith, codeOf, doublesOf}
-
-length-double : (x : Float) → length (doubleBytes x) ≡ 8
-unfolding doubleBytes bytesOf
-length-double x = refl
-
-pub length-doubles : (xs : List Float) → length (doublesBytes xs) ≡ 8 * length xs
-length-doubles [] = refl
-length-doubles (x ∷ xs) = length-append (doubleBytes x) (doublesBytes xs) ∙ omega (arith, length-double x, length-doubles xs)
-
-doubles-snoc : (xs : List Float) (x : Float) → doublesBytes (xs ++ x ∷ []) ≡ doublesBytes xs ++ doubleBytes x
-doubles-snoc [] x = append-nil (doubleBytes x)
-doubles-snoc (y ∷ xs) x = rw (doubles-snoc xs x) (sym (append-assoc (doubleBytes y) (doublesBytes xs) (doubleBytes x)))
-
--- ---- bytes laid over a buffer
--- b behind the bytes a
-extend : (a b l : List ℕ) {n m : ℕ} → length a ≡ n → length b ≡ m → take n (written l a) ++ b ++ drop (n + m) (written l a) ≡ written l (a ++ b)
-extend a b l e f = rw (← e, ← f) (simp (take-append-seam, drop-append-add, drop-drop, length-append))
-
--- the bytes a once more, and b behind them
-again : (a b l : List ℕ) → written (written l a) (a ++ b) ≡ written l (a ++ b)
-again a b l = simp (drop-append-add, drop-drop, length-append)
 
 -- ---- doubles behind the header, which are the first four bytes of l
 module _ (l : List ℕ) (xs : List Float) (h : 4 ≤ length l) where
