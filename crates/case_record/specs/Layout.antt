@@ -1,8 +1,10 @@
 -- The layout of a case record: its header, the places of its doubles, and its length. Reading, writing and checks go by it, so that another version or kind of record is another layout.
 use Prim.Native.Nat.{ℕ, zero, suc, _+_, _-_, _*_, _/_}
 use mathlib.Core.Path.{_≡_, refl}
+use mathlib.Core.Bool.{Bool}
 use mathlib.Core.List.{List}
 use native.Mathlib.Omega.{arith}
+use lib.Dec.{leb}
 use lib.ListN.{getD}
 use Rattle.uvtheory.specs.declared.eos.Perturbation.{Perturbation}
 use Rattle.uvtheory.specs.declared.eos.Perturbation.the-variants.{BarkerHenderson, WeeksChandlerAndersen, WeeksChandlerAndersenB3}
@@ -17,7 +19,10 @@ lengthField s = bigEndian s 0 2
 abbrev pub headerOf : List ℕ → Header
 headerOf s = record { version = getD s 2 0; perturbation = getD s 3 0; n = getD s 4 0 }
 
--- what the byte means; code 4 refuses those above 2
+-- which perturbation bytes there are, and what each means
+abbrev pub isPerturbation : ℕ → Bool
+isPerturbation byte = leb byte 2
+
 abbrev pub perturbationOf : ℕ → Perturbation
 perturbationOf zero = BarkerHenderson
 perturbationOf (suc zero) = WeeksChandlerAndersen

@@ -2,7 +2,7 @@
 ghost use mathlib.Core.Path.{_≡_};
 ghost use Prim.Native.Nat.{_≤_};
 ghost use lib.ListN.{length};
-ghost use Rattle.case_record.specs.Layout.{headerOf, layoutOf, lengthOf, pairs, perturbationOf};
+ghost use Rattle.case_record.specs.Layout.{headerOf, isPerturbation, layoutOf, lengthOf, pairs, perturbationOf};
 use uvtheory::eos::Perturbation;
 
 // What a record says of itself, behind its length.
@@ -32,7 +32,14 @@ pub fn header_of(record: &[u8]) -> Header
     }
 }
 
-// What the perturbation byte means.
+// Whether a byte names a perturbation.
+pub fn is_perturbation(byte: u8) -> bool
+    ensures { λ r. ⌜ r ≡ isPerturbation byte ⌝ }
+{
+    byte <= 2
+}
+
+// What a byte that does so means.
 pub fn perturbation_of(byte: u8) -> Perturbation
     ensures { λ r. ⌜ r ≡ perturbationOf byte ⌝ }
 {

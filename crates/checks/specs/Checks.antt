@@ -11,7 +11,7 @@ use Rattle.arithmetic.specs.Doubles.{guarded}
 use Rattle.uvtheory.specs.declared.parameters.Mixture.{Mixture}
 use Rattle.uvtheory.specs.declared.parameters.State.{State}
 use Rattle.case_record.specs.declared.case.Case.{Case}
-use Rattle.case_record.specs.Layout.{lengthField, headerOf, pairs, lengthOf}
+use Rattle.case_record.specs.Layout.{lengthField, headerOf, isPerturbation, pairs, lengthOf}
 use Rattle.checks.specs.declared.Interval.{Interval}
 
 -- ---- "Intervals are closed. NaN and infinities lie in none; −0 counts as 0."
@@ -117,7 +117,7 @@ envelope s =
     let h = headerOf s in
     (2, leb 5 (length s) && eqb (lengthField s) (length s - 2)) ∷
     (3, eqb (h .version) 1) ∷
-    (4, leb (h .perturbation) 2) ∷
+    (4, isPerturbation (h .perturbation)) ∷
     (5, leb 1 (h .n) && leb (h .n) 8) ∷
     (6, eqb (lengthField s) (lengthOf h)) ∷
     []

@@ -6,6 +6,7 @@ ghost use Rattle.checks.specs.Checks.{allInside, envelope, firstFailing,
 use big_endian::big_endian2;
 use case_record::case::Case;
 use case_record::layout::header_of;
+use case_record::layout::is_perturbation;
 use case_record::layout::length_of;
 use case_record::layout::pairs;
 use uvtheory::hard_sphere::sum;
@@ -97,7 +98,7 @@ pub fn envelope(record: &[u8]) -> u8
     if h.version != 1 {
         return 3;
     }
-    if h.perturbation > 2 {
+    if !is_perturbation(h.perturbation) {
         return 4;
     }
     if h.n < 1 {

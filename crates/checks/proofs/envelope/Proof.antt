@@ -3,10 +3,10 @@ use Prim.Native.Nat.{ℕ, _≤_, _<_}
 use mathlib.Core.Path.{_≡_, sym, subst, _∙_}
 use mathlib.Core.List.{List}
 use borrow.Author.Needs.{needs}
-use borrow.Author.Tests.{le-leb, lt-leb, eq-eqb, ne-eqb}
+use borrow.Author.Tests.{le-leb, lt-leb, eq-eqb, ne-eqb, not-true, not-false}
 use lib.ListN.{length, drop}
 use Rattle.case_record.specs.declared.layout.Header.{Header}
-use Rattle.case_record.specs.Layout.{lengthField, headerOf, lengthOf}
+use Rattle.case_record.specs.Layout.{lengthField, headerOf, isPerturbation, lengthOf}
 use Rattle.checks.specs.Checks.{envelope, firstFailing}
 use Rattle.checks.proofs.envelope.Statement.{statement}
 use Rattle.checks.proofs.envelope.Tie as tie
@@ -50,8 +50,11 @@ past-envelope c =
 past-version : (c : tie.Else3) → let t = s (h₃ c) in firstFailing (envelope t) ≡ from 2 t
 past-version c = past-envelope (h₃ c) ∙ simp (eq-eqb _ _ (of-header (h₃ c) (λ h. h .version ≡ 1) (c .if3 .left)))
 
+known : (c : tie.After-is-perturbation) → isPerturbation (headerOf (s (h₃ (c .before))) .perturbation) ≡ c .is-perturbation .result
+known c = of-header (h₃ (c .before)) (λ h. isPerturbation (h .perturbation) ≡ c .is-perturbation .result) (sym (c .is-perturbation .ensures))
+
 past-perturbation : (c : tie.Else4) → let t = s (h₄ c) in firstFailing (envelope t) ≡ from 3 t
-past-perturbation c = past-version (c .before .before) ∙ simp (le-leb _ _ (of-header (h₄ c) (λ h. h .perturbation ≤ 2) (c .if4 .left)))
+past-perturbation c = past-version (c .before .before) ∙ simp (known (c .before) ∙ not-false _ (c .if4 .left))
 
 some : (c : tie.Else5) → 1 ≤ headerOf (s (h₅ c)) .n
 some c = of-header (h₅ c) (λ h. 1 ≤ h .n) (c .if5 .left)
@@ -81,7 +84,7 @@ returns-3 : tie.Need-returns-3
 returns-3 c = sym (past-envelope (c .before .before) ∙ simp (ne-eqb _ _ (of-header (c .before .before) (λ h. h .version ≡ 1 → ⊥) (c .if3 .taken))))
 
 returns-4 : tie.Need-returns-4
-returns-4 c = sym (past-version (c .before .before) ∙ simp (lt-leb _ _ (of-header (h₃ (c .before .before)) (λ h. 2 < h .perturbation) (c .if4 .taken))))
+returns-4 c = sym (past-version (c .before .before) ∙ simp (known (c .before) ∙ not-true _ (c .if4 .taken)))
 
 returns-5 : tie.Need-returns-5
 returns-5 c = sym (past-perturbation (c .before .before) ∙ simp (lt-leb _ _ (of-header (h₄ (c .before .before)) (λ h. h .n < 1) (c .if5 .taken))))
@@ -109,6 +112,7 @@ envelope-spec =
     returns-2
     (λ c κs. search needs)
     returns-3
+    (λ c κs. tt)
     returns-4
     returns-5
     returns-6
