@@ -14,6 +14,8 @@ use case_record::case::case_of;
 use checks::envelope;
 use checks::state;
 use checks::substances;
+use eos::states::sent;
+use eos::states::started;
 use operations::basic::is_finite;
 use uvtheory::contributions::Contributions;
 
@@ -54,7 +56,7 @@ fn ranges_of(c: Case) -> Answer
     let perturbation = c.perturbation;
     let mixture = c.mixture;
     let state = c.state;
-    let e = eos::ranges::contributions(perturbation, mixture, eos::ranges::sent(state));
+    let e = eos::ranges::contributions(perturbation, mixture, sent(state));
     let hard_sphere = e.hard_sphere;
     let reference = e.reference;
     let attractive = e.attractive;
@@ -87,7 +89,7 @@ fn slopes_of(c: Case) -> Answer
     let perturbation = c.perturbation;
     let mixture = c.mixture;
     let state = c.state;
-    let e = eos::slopes::contributions(perturbation, mixture, eos::slopes::started(state));
+    let e = eos::slopes::contributions(perturbation, mixture, started(state));
     let x = e.hard_sphere;
     let y = e.reference;
     let z = e.attractive;

@@ -1,33 +1,12 @@
 // uvtheory/eos/mod.rs on ranges: the contributions of a perturbation.
-use range::basic::Range;
 use uvtheory::eos::Perturbation;
 use uvtheory::parameters::Mixture;
-use uvtheory::parameters::State;
 use uvtheory_range::contributions::Contributions;
-use uvtheory_range::parameters::constants;
-ghost use mathlib.Core.Path.{_≡_};
 ghost use Prim.Native.Nat.{_≤_};
 ghost use Rattle.range.specs.Rules.{ranges};
-ghost use Rattle.uvtheory.specs.Inputs.{state};
 ghost use Rattle.uvtheory_range.specs.Held.{ContributionsOf};
 ghost use Rattle.uvtheory_range.specs.Rows as Held;
 ghost use Rattle.eos.specs.Contributions.{contributions};
-
-// The state as sent.
-pub fn sent(s: State) -> uvtheory_range::parameters::State
-    ensures { λ r. ⌜ Held.state r ≡ state ranges s ⌝ }
-{
-    let d = s.partial_density;
-    let x = s.molefracs;
-    let temperature = Range::constant(s.temperature);
-    let partial_density = constants(d);
-    let molefracs = constants(x);
-    uvtheory_range::parameters::State {
-        temperature,
-        partial_density,
-        molefracs,
-    }
-}
 
 // Of a mixture as sent, on any state.
 pub fn contributions(

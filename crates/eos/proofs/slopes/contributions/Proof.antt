@@ -1,3 +1,4 @@
+-- Written by tools/copies from crates/eos/proofs/ranges/contributions/Proof.antt.
 use borrow.Author.Needs.{needs}
 use Rattle.uvtheory.specs.Eos.{residual-helmholtz-energy-contributions}
 use Rattle.eos.specs.Contributions.{contributions}

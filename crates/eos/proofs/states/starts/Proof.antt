@@ -9,8 +9,8 @@ use Rattle.dual.specs.Rules.{plain, start}
 use Rattle.uvtheory.specs.Rows.{row}
 use Rattle.uvtheory.proofs.Eight.{past-end, eight}
 use Rattle.uvtheory_dual.specs.Rows.{missing}
-use Rattle.eos.proofs.slopes.starts.Statement.{statement}
-use Rattle.eos.proofs.slopes.starts.Tie as tie
+use Rattle.eos.proofs.states.starts.Statement.{statement}
+use Rattle.eos.proofs.states.starts.Tie as tie
 
 returns : tie.Need-returns
 unfolding start

@@ -1,7 +1,7 @@
 use Prim.Native.Nat.{ℕ}
 use mathlib.Core.Path.{_≡_, ap₂}
-use Rattle.eos.proofs.ranges.sent.Statement.{statement}
-use Rattle.eos.proofs.ranges.sent.Tie as tie
+use Rattle.eos.proofs.states.sent.Statement.{statement}
+use Rattle.eos.proofs.states.sent.Tie as tie
 
 returns : tie.Need-returns
 returns c = rw (c .before .before .constant .ensures, c .before .constants .ensures, c .constants2 .ensures)

@@ -1,5 +1,5 @@
-use Rattle.eos.proofs.slopes.started.Statement.{statement}
-use Rattle.eos.proofs.slopes.started.Tie as tie
+use Rattle.eos.proofs.states.started.Statement.{statement}
+use Rattle.eos.proofs.states.started.Tie as tie
 
 returns : tie.Need-returns
 returns c = rw (c .before .before .constant .ensures, c .before .starts .ensures, c .constants .ensures)
