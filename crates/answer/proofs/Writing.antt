@@ -1,36 +1,27 @@
 -- An answer that is written piece by piece.
 use Prim.Native.Nat.{ℕ, _+_, _*_, _/_, _%_, _<_, _≤_}
-use mathlib.Core.Path.{_≡_, refl, sym, _∙_}
-use mathlib.Core.List.{List, [], _∷_, _++_, append-assoc, append-nil}
+use mathlib.Core.Path.{_≡_, _∙_}
+use mathlib.Core.List.{List, [], _∷_, _++_}
 use native.Mathlib.Numerals.{add-one}
 use native.Mathlib.Omega.{arith}
-use lib.ListN.{length, getD, take, drop, length-append, take-append-drop}
-use lib.Seq.{take-append-seam, drop-append-add, drop-drop, take-suc, take-length, length-take-le}
+use lib.ListN.{length, getD, take, drop}
+use lib.Seq.{take-suc, take-length, length-take-le}
 use lib.Ieee.{Float, nan}
 use Rattle.big_endian.specs.Bytes.{bytesOf, doubleBytes, doublesBytes, written}
-use Rattle.big_endian.proofs.Written.{length-double, length-doubles, doubles-snoc, extend, again}
+use Rattle.big_endian.proofs.Written as Written
+use Rattle.big_endian.proofs.Written.{again, begun, length-doubles}
 use Rattle.answer.specs.declared.Answer.{Answer}
 use Rattle.answer.specs.Answer.{answerBytes, answerWith, codeOf, doublesOf}
 
--- ---- doubles behind the header, which are the first four bytes of l
-module _ (l : List ℕ) (xs : List Float) (h : 4 ≤ length l) where
-  abbrev begun : ℕ → List ℕ
-  begun k = take 4 l ++ doublesBytes (take k xs)
-
-  length-begun : (k : ℕ) → k ≤ length xs → length (begun k) ≡ 4 + 8 * k
-  length-begun k i = length-append (take 4 l) (doublesBytes (take k xs)) ∙ rw (length-take-le 4 l h, length-doubles, length-take-le k xs i)
-
-  pub none-yet : l ≡ written l (begun 0)
-  none-yet = rw (append-nil, length-take-le 4 l h) (sym (take-append-drop 4 l))
-
-  pub double-more : (k : ℕ) {l₁ l₂ : List ℕ} → k < length xs
-      → l₁ ≡ written l (begun k)
-      → l₂ ≡ take (4 + 8 * k) l₁ ++ doubleBytes (getD xs k nan) ++ drop (4 + 8 * k + 8) l₁
-      → l₂ ≡ written l (begun (k + 1))
-  double-more k {l₁} i e₁ e₂ =
-      let x = getD xs k nan in
-      let grown : begun (k + 1) ≡ begun k ++ doubleBytes x = rw (add-one k, take-suc xs k nan i, doubles-snoc, append-assoc) refl in
-      e₂ ∙ rw (e₁, grown) (extend (begun k) (doubleBytes x) l (length-begun k (omega arith)) (length-double x))
+-- one double more behind the header
+pub double-more : (l : List ℕ) (xs : List Float) → 4 ≤ length l → (k : ℕ) {l₁ l₂ : List ℕ} → k < length xs
+    → l₁ ≡ written l (begun l 4 (take k xs))
+    → l₂ ≡ take (4 + 8 * k) l₁ ++ doubleBytes (getD xs k nan) ++ drop (4 + 8 * k + 8) l₁
+    → l₂ ≡ written l (begun l 4 (take (k + 1) xs))
+double-more l xs h k {l₁} i e₁ e₂ =
+    let x = getD xs k nan in
+    let count : length (take k xs) ≡ k = length-take-le k xs (omega arith) in
+    rw (add-one k, take-suc xs k nan i) (Written.double-more l 4 h (take k xs) x e₁ (rw count e₂))
 
 -- a length below 256
 short : (m : ℕ) → m < 256 → bytesOf m 2 ≡ 0 ∷ m ∷ []

@@ -1,6 +1,6 @@
 -- The slopes call beside the energies call, on every record of bytes.
 use Prim.Native.Nat.{ℕ}
-use mathlib.Core.Path.{_≡_, refl, sym}
+use mathlib.Core.Path.{refl, sym}
 use mathlib.Core.Logic.{inl, inr}
 use mathlib.Core.Bool.{Bool, true, false, cond}
 use mathlib.Core.List.{List, [], _∷_, _++_}
@@ -18,7 +18,7 @@ use Rattle.answer.specs.declared.Answer.{Answer}
 use Rattle.answer.specs.declared.Answer.the-variants.{Energies, Slopes, Refused}
 use Rattle.calls.specs.declared.kinds.Kind.the-variants.{Energies as ForEnergies, Slopes as ForSlopes}
 use Rattle.calls.specs.Answers.{all, answerOf, answered, energiesOf, slopesOf, workedOf}
-use Rattle.calls.specs.Beside.{Sloped, Beside}
+use Rattle.calls.specs.Beside.{Beside}
 use Rattle.calls.proofs.Answers.{stages}
 
 -- behind the same code

@@ -1,16 +1,16 @@
 -- A record that is written piece by piece: its header, then one double after the other.
 use Prim.Native.Nat.{ℕ, zero, suc, _+_, _*_, _/_, _%_, _<_, _≤_}
-use mathlib.Core.Path.{_≡_, refl, sym, ap, _∙_}
-use mathlib.Core.List.{List, [], _∷_, _++_, append-assoc, append-nil}
+use mathlib.Core.Path.{_≡_, sym, ap, _∙_}
+use mathlib.Core.List.{List, [], _∷_, _++_}
 use native.Mathlib.Numerals.{add-one}
 use native.Mathlib.Omega.{arith}
-use lib.ListN.{length, getD, take, drop, length-append, take-append-drop}
-use lib.Seq.{length-take-le}
+use lib.ListN.{length, getD, take, drop}
 use lib.Ieee.{Float}
 use Rattle.uvtheory.specs.declared.parameters.Mixture.{Mixture}
 use Rattle.uvtheory.specs.declared.parameters.State.{State}
 use Rattle.big_endian.specs.Bytes.{bytesOf, doubleBytes, doublesBytes, written}
-use Rattle.big_endian.proofs.Written.{length-double, length-doubles, doubles-snoc, extend, again, bytes-below, append-below, doubles-below}
+use Rattle.big_endian.proofs.Written as Written
+use Rattle.big_endian.proofs.Written.{again, append-below, begun, bytes-below, doubles-below}
 use Rattle.case_record.specs.declared.layout.Header.{Header}
 use Rattle.case_record.specs.Layout.{layoutOf, lengthOf}
 use Rattle.case_record.specs.Record.{values}
@@ -30,25 +30,12 @@ pub header-written : (h : Header) (n : ℕ) → h .n ≤ 8 → n ≡ lengthOf h 
 header-written h n l e =
     rw e (ap (λ (b : List ℕ). b ++ (h .version ∷ h .perturbation ∷ h .n ∷ [])) (sym (two-bytes (lengthOf h) (omega (arith, few-doubles h l)))))
 
--- ---- doubles behind the header, which are the first five bytes of l
-module _ (l : List ℕ) (f : ℕ → Float) (h : 5 ≤ length l) where
-  abbrev begun : ℕ → List ℕ
-  begun k = take 5 l ++ doublesBytes (values k f)
-
-  length-begun : (k : ℕ) → length (begun k) ≡ 5 + 8 * k
-  length-begun k = length-append (take 5 l) (doublesBytes (values k f)) ∙ rw (length-take-le 5 l h, length-doubles, length-values)
-
-  pub none-yet : l ≡ written l (begun 0)
-  unfolding values
-  none-yet = rw (append-nil, length-take-le 5 l h) (sym (take-append-drop 5 l))
-
-  pub double-more : (k : ℕ) {l₁ l₂ : List ℕ} → l₁ ≡ written l (begun k)
-      → l₂ ≡ take (5 + 8 * k) l₁ ++ doubleBytes (f k) ++ drop (5 + 8 * k + 8) l₁
-      → l₂ ≡ written l (begun (k + 1))
-  unfolding values
-  double-more k {l₁} e₁ e₂ =
-      let grown : begun (k + 1) ≡ begun k ++ doubleBytes (f k) = rw (add-one k, doubles-snoc, append-assoc) refl in
-      e₂ ∙ rw (e₁, grown) (extend (begun k) (doubleBytes (f k)) l (length-begun k) (length-double (f k)))
+-- ---- the doubles
+pub double-more : (l : List ℕ) (f : ℕ → Float) → 5 ≤ length l → (k : ℕ) {l₁ l₂ : List ℕ} → l₁ ≡ written l (begun l 5 (values k f))
+    → l₂ ≡ take (5 + 8 * k) l₁ ++ doubleBytes (f k) ++ drop (5 + 8 * k + 8) l₁
+    → l₂ ≡ written l (begun l 5 (values (k + 1) f))
+unfolding values
+double-more l f h k {l₁} e₁ e₂ = rw (add-one k) (Written.double-more l 5 h (values k f) (f k) e₁ (rw (length-values k f) e₂))
 
 pub whole-record : (l : List ℕ) (h : Header) (m : Mixture) (t : State) {l₁ l₂ : List ℕ} → l₁ ≡ written l (headerBytes h)
     → l₂ ≡ written l₁ (take 5 l₁ ++ doublesBytes (values (layoutOf h .doubles) (doubleOf h m t)))

@@ -1,7 +1,6 @@
 -- The record of two substances and those of document 01's seven bytes, by computation.
-use Prim.Native.Nat.{ℕ}
 use mathlib.Core.Path.{_≡_, refl}
-use mathlib.Core.List.{List, [], _∷_, _++_}
+use mathlib.Core.List.{[], _∷_, _++_}
 use lib.Ieee.{ofBits, toBits, round, le, add}
 use Rattle.arithmetic.specs.Arithmetic.{sumBy}
 use Rattle.big_endian.specs.Bytes.{bigEndian, bytesOf, doubleAt, doubleBytes}

@@ -6,7 +6,8 @@ use native.Mathlib.Omega.{arith}
 use borrow.Author.Needs.{needs}
 use lib.ListN.{length, take}
 use Rattle.big_endian.specs.Bytes.{doublesBytes, written}
-use Rattle.answer.proofs.Writing.{none-yet, double-more, whole-answer}
+use Rattle.big_endian.proofs.Written.{none-yet}
+use Rattle.answer.proofs.Writing.{double-more, whole-answer}
 use Rattle.answer.proofs.put_answer.Statement.{statement}
 use Rattle.answer.proofs.put_answer.Tie as tie
 
@@ -23,7 +24,7 @@ loop-holds : tie.Need-loop-holds Inv-loop μ-loop
 loop-holds c =
     let l = c .before .before .put-header .last .0 in
     let h : 4 ≤ length l = omega arith in
-    (omega arith, none-yet l (c .before .before .before .before .before .before .args .doubles .now) h, refl)
+    (omega arith, none-yet l 4 h, refl)
 
 loop-again : tie.Need-loop-again Inv-loop μ-loop
 loop-again c =

@@ -1,5 +1,5 @@
 -- By the test.
-use mathlib.Core.Path.{_≡_, sym, _∙_}
+use mathlib.Core.Path.{sym, _∙_}
 use borrow.Author.Needs.{needs}
 use Rattle.checks.proofs.substances.Statement.{statement}
 use Rattle.checks.proofs.substances.Tie as tie

@@ -8,7 +8,6 @@ use Rattle.case_record.specs.Record.{caseOf, mixtureOf}
 use Rattle.checks.specs.Checks.{envelope, substances, state, firstFailing}
 use Rattle.checks.proofs.Accepted.{whole}
 use Rattle.answer.specs.declared.Answer.the-variants.{Refused}
-use Rattle.calls.specs.declared.kinds.Kind.{Kind}
 use Rattle.calls.specs.Answers.{answerOf, answered, workedOf}
 use Rattle.calls.proofs.Answers.{passed, refused, stages}
 use Rattle.calls.proofs.kinds.answer_of.Statement.{statement}

@@ -1,5 +1,5 @@
 -- By what the test of the three ranges says.
-use mathlib.Core.Path.{_≡_, subst}
+use mathlib.Core.Path.{subst}
 use borrow.Author.Needs.{needs}
 use Rattle.range.specs.declared.basic.Range.{Range}
 use Rattle.range.specs.Rules.{ranges}

@@ -1,5 +1,5 @@
 -- The substances' code, or behind it the state's.
-use mathlib.Core.Path.{_≡_, sym, _∙_}
+use mathlib.Core.Path.{sym, _∙_}
 use borrow.Author.Needs.{needs}
 use Rattle.checks.specs.Checks.{substances, state}
 use Rattle.checks.proofs.Accepted.{first-fails, first-passes}

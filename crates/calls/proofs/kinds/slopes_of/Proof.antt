@@ -1,5 +1,5 @@
 -- By what the tests of both halves, and of the values, say.
-use mathlib.Core.Path.{_≡_, subst}
+use mathlib.Core.Path.{subst}
 use borrow.Author.Needs.{needs}
 use Rattle.dual.specs.declared.basic.Dual.{Dual}
 use Rattle.dual.specs.Rules.{plain, guardedSlopes}

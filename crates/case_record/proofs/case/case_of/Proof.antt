@@ -1,6 +1,4 @@
 -- The mixture and the state by the record's own header.
-use mathlib.Core.Path.{subst⁻¹}
-use native.Mathlib.Omega.{arith}
 use borrow.Author.Needs.{needs}
 use Rattle.case_record.proofs.case.case_of.Statement.{statement}
 use Rattle.case_record.proofs.case.case_of.Tie as tie

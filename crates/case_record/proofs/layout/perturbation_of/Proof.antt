@@ -1,6 +1,6 @@
 -- By the byte.
 use Prim.Native.Nat.{ℕ, zero, suc}
-use mathlib.Core.Path.{_≡_, refl, sym}
+use mathlib.Core.Path.{_≡_, refl}
 use borrow.Author.Needs.{needs}
 use Rattle.uvtheory.specs.declared.eos.Perturbation.the-variants.{WeeksChandlerAndersenB3}
 use Rattle.case_record.specs.Layout.{perturbationOf}

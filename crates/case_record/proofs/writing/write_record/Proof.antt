@@ -6,12 +6,13 @@ use native.Mathlib.Omega.{arith}
 use borrow.Author.Needs.{needs}
 use lib.ListN.{length, take}
 use Rattle.big_endian.specs.Bytes.{doublesBytes, written}
+use Rattle.big_endian.proofs.Written.{none-yet}
 use Rattle.case_record.specs.declared.layout.Layout.{Layout}
 use Rattle.case_record.specs.Layout.{layoutOf}
 use Rattle.case_record.specs.Record.{values}
 use Rattle.case_record.specs.Writing.{doubleOf}
 use Rattle.case_record.proofs.Sizes.{few-doubles}
-use Rattle.case_record.proofs.Pieces.{none-yet, double-more, whole-record}
+use Rattle.case_record.proofs.Pieces.{double-more, whole-record}
 use Rattle.case_record.proofs.writing.write_record.Statement.{statement}
 use Rattle.case_record.proofs.writing.write_record.Tie as tie
 
@@ -35,11 +36,11 @@ few : (c : tie.After-layout-of Inv-loop μ-loop) → layoutOf (start c .args .h)
 few c = few-doubles (start c .args .h) (start c .pre .0)
 
 loop-holds : tie.Need-loop-holds Inv-loop μ-loop
+unfolding values
 loop-holds c =
-    let a = start c .args in
     let l = c .before .before .before .put-header .last .0 in
     let h : 5 ≤ length l = omega arith in
-    (omega arith, none-yet l (doubleOf (a .h) (a .m) (a .s)) h, refl)
+    (omega arith, none-yet l 5 h, refl)
 
 loop-again : tie.Need-loop-again Inv-loop μ-loop
 loop-again c =
