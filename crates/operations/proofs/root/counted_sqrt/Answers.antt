@@ -18,8 +18,8 @@ use Rattle.arithmetic.specs.Rounds.{rounds}
 use Rattle.arithmetic.proofs.Next.{finite_not_nan, real_plus}
 use Rattle.arithmetic.proofs.Tests.{zero_by_zero, is_so}
 use Rattle.arithmetic.proofs.Zero.{is_zero_is, not_zero, above_zero, positive_pattern}
-use Rattle.operations.proofs.root.counted_sqrt.Statement.{statement}
-use Rattle.operations.proofs.root.counted_sqrt.Tie as tie
+use Rattle.operations.proofs.root.counted_sqrt.Goals as goal
+use Rattle.operations.proofs.root.counted_sqrt.Goals.{then-v-2+else-is_finite, else-v-2}
 
 -- ---- the cases without a loop
 abbrev Is : Float → ℕ → Float → Type 0
@@ -51,40 +51,32 @@ none_below (fin false m e) n l =
     ]
 
 -- ---- the needs
-held : (c : tie.Start) → T (fits binary64 c.args.v)
-held c = subst T (sym c.well_formed.0.1) tt
+so : {b : Bool} → b ≡ true → T b
+so e = subst T (sym e) tt
 
-number : (c : tie.Then3) → T (finite c.before.before.before.before.args.v)
-number c = is_so c.before.is_finite.result c.before.before.before.before.args.v c.before.is_finite.ensures c.if3.true
+pub returns-then-v : goal.returns-then-v
+returns-then-v c = root_of_zero c.args.v (so c.well_formed.0.1) c.if-v.true
 
-returns : tie.Need-returns
-returns c = root_of_zero c.before.args.v (held c.before) c.if1.true
+pub float_to_bits-v : goal.float_to_bits-v
+float_to_bits-v c = finite_not_nan c.args.v (is_so _ c.args.v c.is_finite.ensures c.if-is_finite.true)
 
-is_finite_requires : tie.Need-is-finite-requires
-is_finite_requires c κs = search rules
+pub root_bits-r-requires : goal.root_bits-r-requires
+root_bits-r-requires c =
+    positive_pattern c.args.v (so c.well_formed.0.1) (is_so _ c.args.v c.is_finite.ensures c.if-is_finite.true) (above_zero c.args.v (is_so _ c.args.v c.is_finite.ensures c.if-is_finite.true) c.if-v-2.true)
 
-float_to_bits_root_bits : tie.Need-float-to-bits-root-bits
-float_to_bits_root_bits c = finite_not_nan c.before.before.before.before.args.v (number c)
+pub float_from_bits-result : goal.float_from_bits-result
+float_from_bits-result c = let r = c.root_bits-r in real_plus binary64 r.result.root (omega (arith, r.ensures.0)) (omega (arith, r.ensures.0))
 
-root_bits_requires : tie.Need-root-bits-requires
-root_bits_requires c κs =
-    let start = c.before.before.before.before in
-    positive_pattern start.args.v (held start) (number c) (above_zero start.args.v (number c) c.before.before.if2.true)
-
-float_from_bits_t6 : tie.Need-float-from-bits-t6
-float_from_bits_t6 c = let r = c.before.root_bits in real_plus binary64 r.result.root (omega (arith, r.ensures.0)) (omega (arith, r.ensures.0))
-
-returns_2 : tie.Need-returns-2
-returns_2 c =
-    let start = c.before.before.before.before.before.before in
-    let r = c.before.root_bits.ensures in
-    let e = of_bits-to_bits binary64 start.args.v (held start) in
+pub returns-then-is_finite : goal.returns-then-is_finite
+returns-then-is_finite c =
+    let r = c.root_bits-r.ensures in
+    let e = of_bits-to_bits binary64 c.args.v (so c.well_formed.0.1) in
     (r.1 ∙ ap sqrt e, r.2 ∙ ap rounds e)
 
-returns_3 : tie.Need-returns-3
-returns_3 c =
-    let start = c.before.before in
-    rw zero_by_zero (⊎_elim (λ w. none_above start.args.v (sym w.1.ensures ∙ w.2.left)) (λ w. none_below start.args.v c.before.if1.false w.left) c.if2.branch)
-
-pub counted_sqrt_spec : {M : Type 1} → statement M
-counted_sqrt_spec = tie.close (tie.spec returns is_finite_requires float_to_bits_root_bits root_bits_requires float_from_bits_t6 returns_2 returns_3)
+pub returns : goal.returns
+returns c =
+    rw zero_by_zero
+    (elim c.if-v-2.branch [
+      | then-v-2+else-is_finite w ↦ none_above c.args.v (sym w.is_finite.ensures ∙ w.if-is_finite.false)
+      | else-v-2 w ↦ none_below c.args.v c.if-v.false w.if-v-2.false
+    ])
