@@ -8,8 +8,8 @@ use Rattle.arithmetic.specs.Constants.{zero_d}
 use Rattle.arithmetic.specs.Recipes as R
 use Rattle.arithmetic.specs.Doubles.{plain, tested}
 use Rattle.arithmetic.proofs.Tests.{below_is, above_is, zero_by_zero}
-use Rattle.elementary.proofs.exponential.powf.Statement.{statement}
-use Rattle.elementary.proofs.exponential.powf.Tie as tie
+use Rattle.elementary.proofs.exponential.powf.Goals as goal
+use Rattle.elementary.proofs.exponential.powf.Goals.{then-is_finite+then-b+else-is_finite-2, then-is_finite+else-b, else-is_finite}
 
 -- the recipe for a number, by its cases
 by_cases : (v b : Float) → finite v ≡ true → R.powf plain v b
@@ -41,15 +41,13 @@ under nan b h k = not_finite nan b refl
 under (inf s) b h k = not_finite (inf s) b refl
 under (fin s m e) b h k = rw (by_cases (fin s m e) b refl, h, k)
 
-returns : tie.Need-returns
-returns c =
-    let s = c.before.before in
-    c.exp.ensures ∙ ap (λ (l : Float). R.exp plain (mul binary64 s.before.args.b l)) c.before.ln.ensures ∙ over s.before.args.v s.before.args.b s.if1.true
+pub returns-then-v : goal.returns-then-v
+returns-then-v c =
+    c.exp.ensures ∙ ap (λ (l : Float). R.exp plain (mul binary64 c.args.b l)) c.ln.ensures ∙ over c.args.v c.args.b c.if-v.true
 
-returns_2 : tie.Need-returns-2
-returns_2 c =
-    let s = c.before in
-    zero_by_zero ∙ under s.before.args.v s.before.args.b s.if1.false c.if2.true
+pub returns-then-v-2 : goal.returns-then-v-2
+returns-then-v-2 c =
+    zero_by_zero ∙ under c.args.v c.args.b c.if-v.false c.if-v-2.true
 
 -- a base of zero
 module _ (v b : Float) (p : finite v ≡ true) (h : lt zero_d v ≡ false) (k : lt v zero_d ≡ false) where
@@ -65,26 +63,20 @@ either nan h = refl
 either (inf s) h = refl
 either (fin s m e) h = rw (tested_number (fin s m e) zero_d nan refl, h)
 
-returns_3 : tie.Need-returns-3
-returns_3 c =
-    let t = c.before.before in
-    let f = t.before.before in
-    let e = f.before in
-    let v = e.before.before.args.v in
-    let b = e.before.before.args.b in
-    rw (at_zero v b (sym f.is_finite.ensures ∙ t.before.if3.true) e.before.if1.false e.if2.false, tested_number b zero_d nan (sym c.before.is_finite2.ensures ∙ c.if5.true), t.if4.true)
+pub returns-then-is_finite-2 : goal.returns-then-is_finite-2
+returns-then-is_finite-2 c =
+    let v = c.args.v in
+    let b = c.args.b in
+    rw (at_zero v b (sym c.is_finite.ensures ∙ c.if-is_finite.true) c.if-v.false c.if-v-2.false, tested_number b zero_d nan (sym c.is_finite-then-b.ensures ∙ c.if-is_finite-2.true), c.if-b.true)
 
-returns_4 : tie.Need-returns-4
-returns_4 c =
-    let f = c.before in
-    let e = f.before in
-    let v = e.before.before.args.v in
-    let b = e.before.before.args.b in
-    let zero : finite v ≡ true → R.powf plain v b ≡ tested (above zero_d) b zero_d nan = λ p. at_zero v b p e.before.if1.false e.if2.false in
-    zero_by_zero ∙ ⊎_elim
-    (λ w. rw (zero (sym f.is_finite.ensures ∙ w.0.taken), sym w.2.ensures ∙ w.3.left))
-    (⊎_elim (λ w. rw (zero (sym f.is_finite.ensures ∙ w.0.taken)) (either b w.1.left)) (λ w. not_finite v b (sym f.is_finite.ensures ∙ w.left)))
-    c.if3.branch
-
-pub powf_spec : {M : Type 1} → statement M
-powf_spec = tie.close (tie.spec (λ c κs. tt) (λ c κs. tt) returns returns_2 (λ c κs. tt) (λ c κs. tt) returns_3 returns_4)
+pub returns : goal.returns
+returns c =
+    let v = c.args.v in
+    let b = c.args.b in
+    let zero : finite v ≡ true → R.powf plain v b ≡ tested (above zero_d) b zero_d nan = λ p. at_zero v b p c.if-v.false c.if-v-2.false in
+    zero_by_zero
+    ∙ elim c.if-is_finite.branch [
+      | then-is_finite+then-b+else-is_finite-2 w ↦ rw (zero (sym c.is_finite.ensures ∙ w.if-is_finite.true), sym w.is_finite-then-b.ensures ∙ w.if-is_finite-2.false)
+      | then-is_finite+else-b w ↦ rw (zero (sym c.is_finite.ensures ∙ w.if-is_finite.true)) (either b w.if-b.false)
+      | else-is_finite w ↦ not_finite v b (sym c.is_finite.ensures ∙ w.if-is_finite.false)
+    ]

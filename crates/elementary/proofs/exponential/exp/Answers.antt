@@ -12,8 +12,7 @@ use Rattle.arithmetic.proofs.Tests.{below_is, above_is, le_is, zero_by_zero, fai
 use mir.ValLaws.{to_z-of_z}
 use Rattle.elementary.proofs.Floor.{Bounded, Normal, floor_normal, normal_word}
 use Rattle.elementary.proofs.Place.{constants, place, limited_finite, place_bounded}
-use Rattle.elementary.proofs.exponential.exp.Statement.{statement}
-use Rattle.elementary.proofs.exponential.exp.Tie as tie
+use Rattle.elementary.proofs.exponential.exp.Goals as goal
 
 -- ---- the recipe, by its cases
 exp_low : (v : Float) → finite v ≡ true → lt v minus_seven_hundred ≡ true → zero_d ≡ R.exp plain v
@@ -38,39 +37,31 @@ exp_high (fin s m e) a b = rw (below_is (fin s m e) minus_seven_hundred tt const
     above x p h = passed_test (lt seven_hundred x) (sym (le_is x seven_hundred p constants.2) ∙ h)
 
 -- ---- the function
-returns : tie.Need-returns
-returns c = exp_low c.before.before.before.args.v (sym c.before.is_finite.ensures ∙ c.if2.true) c.before.before.if1.true
+pub returns-then-is_finite : goal.returns-then-is_finite
+returns-then-is_finite c = exp_low c.args.v (sym c.is_finite.ensures ∙ c.if-is_finite.true) c.if-v.true
 
-returns_2 : tie.Need-returns-2
-returns_2 c = zero_by_zero ∙ exp_not_finite c.before.before.before.args.v (sym c.before.is_finite.ensures ∙ c.if2.false)
+pub returns-then-v : goal.returns-then-v
+returns-then-v c = zero_by_zero ∙ exp_not_finite c.args.v (sym c.is_finite.ensures ∙ c.if-is_finite.false)
 
-floor_requires : tie.Need-floor-requires
-floor_requires c κs = place_bounded c.before.before.args.v c.before.if1.false c.if3.true
-
-bounded : (c : tie.After-floor) → Bounded (place c.before.before.before.args.v)
-bounded c = place_bounded c.before.before.before.args.v c.before.before.if1.false c.before.if3.true
+pub floor-requires : goal.floor-requires
+floor-requires c = place_bounded c.args.v c.if-v.false c.if-v-2.true
 
 -- k is the floor, and comes back from the i64
-back : (c : tie.After-floor) → Normal (floor_of (value (place c.before.before.before.args.v))) × (to_z w64 (of_z w64 c.floor.result) ≡ floor_of (value (place c.before.before.before.args.v)))
-back c =
-    let b = bounded c in
-    let n = floor_normal (value (place c.before.before.before.args.v)) b.1 b.2 in
-    (n, ap (λ (z : ℤ). to_z w64 (of_z w64 z)) c.floor.ensures ∙ to_z-of_z w64 _ (normal_word _ n))
+back : (v : Float) (k : ℤ) → Bounded (place v) → k ≡ floor_of (value (place v)) → Normal (floor_of (value (place v))) × (to_z w64 (of_z w64 k) ≡ floor_of (value (place v)))
+back v k b e =
+    let n = floor_normal (value (place v)) b.1 b.2 in
+    (n, ap (λ (z : ℤ). to_z w64 (of_z w64 z)) e ∙ to_z-of_z w64 _ (normal_word _ n))
 
-exp_of_requires : tie.Need-exp-of-requires
-exp_of_requires c κs = rw (back c).1 (back c).0
+pub exp_of-requires : goal.exp_of-requires
+exp_of-requires c = let v = c.args.v in let b = back v c.floor.result (place_bounded v c.if-v.false c.if-v-2.true) c.floor.ensures in rw b.1 b.0
 
-returns_3 : tie.Need-returns-3
-returns_3 c =
-    let f = c.before in
-    let v = f.before.before.before.args.v in
-    let p = limited_finite v f.before.before.if1.false f.before.if3.true in
+pub returns-then-v-2 : goal.returns-then-v-2
+returns-then-v-2 c =
+    let v = c.args.v in
+    let p = limited_finite v c.if-v.false c.if-v-2.true in
     c.exp_of.ensures
-    ∙ ap (λ (k : ℤ). R.exp_of plain v k) (back f).1
-    ∙ exp_middle v p (bounded f).0 f.before.before.if1.false (failed_test (lt seven_hundred v) (sym (le_is v seven_hundred p constants.2) ∙ f.before.if3.true))
+    ∙ ap (λ (k : ℤ). R.exp_of plain v k) (back v c.floor.result (place_bounded v c.if-v.false c.if-v-2.true) c.floor.ensures).1
+    ∙ exp_middle v p (place_bounded v c.if-v.false c.if-v-2.true).0 c.if-v.false (failed_test (lt seven_hundred v) (sym (le_is v seven_hundred p constants.2) ∙ c.if-v-2.true))
 
-returns_4 : tie.Need-returns-4
-returns_4 c = zero_by_zero ∙ exp_high c.before.before.args.v c.before.if1.false c.if3.false
-
-pub exp_spec : {M : Type 1} → statement M
-exp_spec = tie.close (tie.spec (λ c κs. tt) returns returns_2 floor_requires exp_of_requires returns_3 returns_4)
+pub returns : goal.returns
+returns c = zero_by_zero ∙ exp_high c.args.v c.if-v.false c.if-v-2.false

@@ -11,8 +11,7 @@ use Rattle.arithmetic.specs.Doubles.{scaled}
 use Rattle.elementary.proofs.PowerOfTwo.{not_nan_bits}
 use Rattle.elementary.proofs.Reduction.{split_at}
 use Rattle.elementary.proofs.Words.{word, sub_word, sub_float}
-use Rattle.elementary.proofs.logarithm.split.Statement.{statement}
-use Rattle.elementary.proofs.logarithm.split.Tie as tie
+use Rattle.elementary.proofs.logarithm.split.Goals as goal
 
 -- an exponent below 2100, less suc k, in an i64
 module _ (exp k : ℕ) (h : exp < 2100) (l : k < 2100) where
@@ -28,57 +27,41 @@ module _ (exp k : ℕ) (h : exp < 2100) (l : k < 2100) where
   float : T (in_float binary64 (sub_ℕ exp (suc k)))
   float = sub_float exp (suc k) (omega arith) (omega arith)
 
-float_from_bits_t6 : tie.Need-float-from-bits-t6
-float_from_bits_t6 c = not_nan_bits _ (let e = c.before.before.before.parts.ensures.0 in omega arith)
+pub float_from_bits-result : goal.float_from_bits-result
+float_from_bits-result c = not_nan_bits _ (let e = c.parts-p.ensures.bound in omega arith)
 
-float_from_bits_t10 : tie.Need-float-from-bits-t10
-float_from_bits_t10 c = not_nan_bits _ (let e = c.before.before.before.parts.ensures.0 in omega arith)
+pub float_from_bits-result-else-p-lt6755399441055744 : goal.float_from_bits-result-else-p-lt6755399441055744
+float_from_bits-result-else-p-lt6755399441055744 c = not_nan_bits _ (let e = c.parts-p.ensures.bound in omega arith)
 
-sub_t8 : tie.Need-overflow-sub-t8
-sub_t8 c = let p = c.before.before.before.before.parts in fits p.result.exp 1073 p.ensures.0.2 (omega arith)
+pub overflow_sub-result : goal.overflow_sub-result
+overflow_sub-result c = let p = c.parts-p in fits p.result.exp 1073 p.ensures.bound.2 (omega arith)
 
-sub_t12 : tie.Need-overflow-sub-t12
-sub_t12 c = let p = c.before.before.before.before.parts in fits p.result.exp 1072 p.ensures.0.2 (omega arith)
+pub overflow_sub-result-else-p-lt6755399441055744 : goal.overflow_sub-result-else-p-lt6755399441055744
+overflow_sub-result-else-p-lt6755399441055744 c = let p = c.parts-p in fits p.result.exp 1072 p.ensures.bound.2 (omega arith)
 
 -- what is left to show of an m and an e
 Split : (b : ℕ) (m : Float) (e : ℤ) → Type 0
 Split b m e = (exponent_of (value (of_bits binary64 b)) ≡ some e) × (scaled (of_bits binary64 b) (neg_ℤ e) ≡ m) × T (in_float binary64 e)
     × (value m ≼ value (of_bits binary64 b) ⊗ value (fin false 1 (neg_ℤ e))) × (value (of_bits binary64 b) ⊗ value (fin false 1 (neg_ℤ e)) ≼ value m)
 
-returns : tie.Need-returns
+pub returns-then-p-lt6755399441055744 : goal.returns-then-p-lt6755399441055744
 unfolding Split
-returns c =
-    let p = c.before.before.before.before.parts in
+returns-then-p-lt6755399441055744 c =
+    let p = c.parts-p in
     let e = p.ensures in
     let sig = p.result.sig in
     let exp = p.result.exp in
-    let b = c.before.before.before.before.before.args.b in
-    let r = split_at b sig exp 1022 52 1074 e.0.0 e.0.1 (omega arith) refl refl (omega arith) (omega arith) e.1 in
-    subst (λ (z : ℤ). Split b (of_bits binary64 (sig + 1022 * 2 ^ 52)) z) (sym (back exp 1073 e.0.2 (omega arith))) (r.0, r.1, float exp 1073 e.0.2 (omega arith), r.2, r.3)
+    let b = c.args.b in
+    let r = split_at b sig exp 1022 52 1074 e.bound.0 e.bound.1 (omega arith) refl refl (omega arith) (omega arith) e.has_value in
+    subst (λ (z : ℤ). Split b (of_bits binary64 (sig + 1022 * 2 ^ 52)) z) (sym (back exp 1073 e.bound.2 (omega arith))) (r.0, r.1, float exp 1073 e.bound.2 (omega arith), r.2, r.3)
 
-returns_2 : tie.Need-returns-2
+pub returns-else-p-lt6755399441055744 : goal.returns-else-p-lt6755399441055744
 unfolding Split
-returns_2 c =
-    let p = c.before.before.before.before.parts in
+returns-else-p-lt6755399441055744 c =
+    let p = c.parts-p in
     let e = p.ensures in
     let sig = p.result.sig in
     let exp = p.result.exp in
-    let b = c.before.before.before.before.before.args.b in
-    let r = split_at b sig exp 1021 53 1073 e.0.0 e.0.1 (omega arith) refl refl (omega arith) (omega arith) e.1 in
-    subst (λ (z : ℤ). Split b (of_bits binary64 (sig + 1021 * 2 ^ 52)) z) (sym (back exp 1072 e.0.2 (omega arith))) (r.0, r.1, float exp 1072 e.0.2 (omega arith), r.2, r.3)
-
-pub split_spec : {M : Type 1} → statement M
-split_spec =
-    tie.close
-    (tie.spec
-    (λ c κs. search rules)
-    (λ c. search rules)
-    float_from_bits_t6
-    (λ c. search rules)
-    sub_t8
-    (λ c. search rules)
-    float_from_bits_t10
-    (λ c. search rules)
-    sub_t12
-    returns
-    returns_2)
+    let b = c.args.b in
+    let r = split_at b sig exp 1021 53 1073 e.bound.0 e.bound.1 (omega arith) refl refl (omega arith) (omega arith) e.has_value in
+    subst (λ (z : ℤ). Split b (of_bits binary64 (sig + 1021 * 2 ^ 52)) z) (sym (back exp 1072 e.bound.2 (omega arith))) (r.0, r.1, float exp 1072 e.bound.2 (omega arith), r.2, r.3)
