@@ -18,8 +18,7 @@ use Rattle.arithmetic.proofs.Zero.{above_zero, positive_pattern, plus_pattern_ze
 use Rattle.range.specs.Rules.{range, failed, plus_zero, before, after}
 use Rattle.range.specs.Rules as Rules
 use Rattle.range.proofs.Positive.{to_largest}
-use Rattle.range.proofs.basic.neighbours.Statement.{statement}
-use Rattle.range.proofs.basic.neighbours.Tie as tie
+use Rattle.range.proofs.basic.neighbours.Goals as goal
 
 -- ---- the rule of two ends whose patterns are below the infinity's
 plus_zero_is : (a : ℕ) → a < 0x7ff0_0000_0000_0000 → plus_zero (of_bits binary64 a) ≡ of_bits binary64 a
@@ -81,7 +80,7 @@ module _ (l u : Float) (p : Positive l u) where
   neighbours = sym (ap₂ Rules.ends before_is after_is ∙ ends_are (to_bits binary64 l - 1) (to_bits binary64 u + 1) (omega (arith, l_pattern.1)) (omega (arith, u_pattern)))
 
 -- ---- the needs
-asked : (c : tie.Start) → Positive c.args.l c.args.u
+asked : (c : goal.Start) → Positive c.args.l c.args.u
 asked c = record {
   fits_l = subst T (sym c.well_formed.0.1) tt;
   fits_u = subst T (sym c.well_formed.1.0.1) tt;
@@ -90,26 +89,23 @@ asked c = record {
   below_largest = c.requires.2;
 }
 
-float_to_bits_t3 : tie.Need-float-to-bits-t3
-float_to_bits_t3 c = finite_not_nan c.args.l (l_finite c.args.l c.args.u (asked c))
+pub float_to_bits-result : goal.float_to_bits-result
+float_to_bits-result c = finite_not_nan c.args.l (l_finite c.args.l c.args.u (asked c))
 
-sub_t4 : tie.Need-overflow-sub-t4
-sub_t4 c = (l_pattern c.args.l c.args.u (asked c)).0
+pub overflow_sub-result : goal.overflow_sub-result
+overflow_sub-result c = (l_pattern c.args.l c.args.u (asked c)).0
 
-float_from_bits_t5 : tie.Need-float-from-bits-t5
-float_from_bits_t5 c = let h = (l_pattern c.args.l c.args.u (asked c)).1 in real_plus binary64 (to_bits binary64 c.args.l - 1) (omega (arith, h)) (omega (arith, h))
+pub float_from_bits-result : goal.float_from_bits-result
+float_from_bits-result c = let h = (l_pattern c.args.l c.args.u (asked c)).1 in real_plus binary64 (to_bits binary64 c.args.l - 1) (omega (arith, h)) (omega (arith, h))
 
-float_to_bits_t6 : tie.Need-float-to-bits-t6
-float_to_bits_t6 c = finite_not_nan c.args.u (u_finite c.args.l c.args.u (asked c))
+pub float_to_bits-result-2 : goal.float_to_bits-result-2
+float_to_bits-result-2 c = finite_not_nan c.args.u (u_finite c.args.l c.args.u (asked c))
 
-add_t7 : tie.Need-overflow-add-t7
-add_t7 c = omega (arith, u_pattern c.args.l c.args.u (asked c))
+pub overflow_add-result : goal.overflow_add-result
+overflow_add-result c = omega (arith, u_pattern c.args.l c.args.u (asked c))
 
-float_from_bits_t8 : tie.Need-float-from-bits-t8
-float_from_bits_t8 c = let h = u_pattern c.args.l c.args.u (asked c) in real_plus binary64 (to_bits binary64 c.args.u + 1) (omega (arith, h)) (omega (arith, h))
+pub float_from_bits-result-2 : goal.float_from_bits-result-2
+float_from_bits-result-2 c = let h = u_pattern c.args.l c.args.u (asked c) in real_plus binary64 (to_bits binary64 c.args.u + 1) (omega (arith, h)) (omega (arith, h))
 
-returns : tie.Need-returns
+pub returns : goal.returns
 returns c = neighbours c.args.l c.args.u (asked c)
-
-pub neighbours_spec : {M : Type 1} → statement M
-neighbours_spec = tie.close (tie.spec float_to_bits_t3 sub_t4 float_from_bits_t5 float_to_bits_t6 add_t7 float_from_bits_t8 returns)
