@@ -9,7 +9,7 @@ use uvtheory::hard_sphere::sum;
 use uvtheory::parameters::{Mixture, State};
 
 // A closed interval: its lower and its upper limit.
-#[derive(Drop)]
+#[derive(Clone, Copy)]
 pub struct Interval(pub f64, pub f64);
 
 const REP: Interval = Interval(8.0, 48.0);

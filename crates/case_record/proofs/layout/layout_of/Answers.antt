@@ -1,0 +1,6 @@
+-- Each field begins where the one before it ends.
+use borrow.Author.Rules.{rules}
+use Rattle.case_record.proofs.layout.layout_of.Goals as goal
+
+pub returns : goal.returns
+returns c = rw c.pairs.ensures.0
