@@ -1,5 +1,4 @@
 -- The mixture and the state by the record's own header.
-use borrow.Author.Rules.{rules}
 use Rattle.case_record.proofs.case.case_of.Goals as goal
 
 pub returns : goal.returns

@@ -1,10 +1,7 @@
-use Prim.Native.Nat.{◌+◌, ◌-◌, ◌*◌, ◌≤◌}
 use mathlib.Core.Path.{◌≡◌, refl}
-use mathlib.Core.List.{◌++◌}
 use native.Mathlib.Numerals.{add-one}
 use native.Mathlib.Omega.{arith}
-use borrow.Author.Rules.{rules}
-use lib.ListN.{length, drop, length-set}
+use lib.ListN.{length-set}
 use Rattle.case_record.specs.Record.{values, column}
 use Rattle.case_record.proofs.Rows.{value_more}
 use Rattle.case_record.proofs.case.read_column.Goals as goal

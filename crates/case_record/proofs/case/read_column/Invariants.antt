@@ -1,13 +1,9 @@
 -- The loop's invariant: the first i places are filled.
-use Prim.Native.Nat.{◌+◌, ◌-◌, ◌*◌, ◌≤◌}
-use mathlib.Core.Path.{◌≡◌, refl}
+use Prim.Native.Nat.{◌-◌, ◌≤◌}
+use mathlib.Core.Path.{◌≡◌}
 use mathlib.Core.List.{◌++◌}
-use native.Mathlib.Numerals.{add-one}
-use native.Mathlib.Omega.{arith}
-use borrow.Author.Rules.{rules}
-use lib.ListN.{length, drop, length-set}
+use lib.ListN.{length, drop}
 use Rattle.case_record.specs.Record.{values, column}
-use Rattle.case_record.proofs.Rows.{value_more}
 use Rattle.case_record.proofs.case.read_column.Given as goal
 
 abbrev pub invariant-loop-i : goal.invariant-loop-i

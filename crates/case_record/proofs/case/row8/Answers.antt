@@ -1,6 +1,5 @@
 -- The column, in an array of +0.
 use mathlib.Core.Path.{◌∙◌}
-use borrow.Author.Rules.{rules}
 use Rattle.case_record.proofs.Rows.{filled}
 use Rattle.case_record.proofs.case.row8.Goals as goal
 

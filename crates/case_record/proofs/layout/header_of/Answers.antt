@@ -1,6 +1,5 @@
 -- The three bytes behind the length.
 use native.Mathlib.Omega.{arith}
-use borrow.Author.Rules.{rules}
 use Rattle.case_record.proofs.layout.header_of.Goals as goal
 
 pub overflow_cast-result : goal.overflow_cast-result

@@ -1,5 +1,4 @@
 -- Each field begins where the one before it ends.
-use borrow.Author.Rules.{rules}
 use Rattle.case_record.proofs.layout.layout_of.Goals as goal
 
 pub returns : goal.returns

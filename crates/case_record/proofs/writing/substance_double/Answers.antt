@@ -2,7 +2,6 @@
 use Prim.Native.Nat.{ℕ, ◌/◌, ◌%◌}
 use mathlib.Core.Path.{◌≡◌, sym, ap}
 use native.Mathlib.Omega.{arith}
-use borrow.Author.Rules.{rules}
 use lib.ListN.{get_or}
 use lib.Ieee.{nan}
 use Rattle.uvtheory.specs.declared.parameters.Mixture.{Mixture}

@@ -1,18 +1,12 @@
 -- The loop's invariant: behind the header stand the first k doubles.
 use Prim.Native.Nat.{◌-◌, ◌≤◌}
-use mathlib.Core.Path.{◌≡◌, refl, ap}
+use mathlib.Core.Path.{◌≡◌}
 use mathlib.Core.List.{◌++◌}
-use native.Mathlib.Omega.{arith}
-use borrow.Author.Rules.{rules}
 use lib.ListN.{length, take}
 use Rattle.big_endian.specs.Bytes.{doubles_bytes, written}
-use Rattle.big_endian.proofs.Written.{none_yet}
-use Rattle.case_record.specs.declared.layout.Layout.{Layout}
 use Rattle.case_record.specs.Layout.{layout_of}
 use Rattle.case_record.specs.Record.{values}
 use Rattle.case_record.specs.Writing.{double_of}
-use Rattle.case_record.proofs.Sizes.{few_doubles}
-use Rattle.case_record.proofs.Pieces.{double_more, whole_record}
 use Rattle.case_record.proofs.writing.write_record.Given as goal
 
 abbrev pub invariant-loop-k : goal.invariant-loop-k
