@@ -1,4 +1,6 @@
 // The checks of a record, in stages: the envelope, the substances, the state.
+#![tactic(auto)]
+
 ghost use Rattle.std.specs.Prelude.{◌≡◌, ◌≤◌, length};
 ghost use Rattle.checks.specs.Checks.{all_inside, envelope, first_failing, inside, state, state_inside, substances, substances_inside};
 
