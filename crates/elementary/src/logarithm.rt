@@ -42,7 +42,7 @@ fn series(s: f64) -> f64
 }
 
 // m * 2^e with 0.75 <= m < 1.5.
-#[derive(Drop)]
+#[derive(Clone, Copy)]
 pub struct Reduced {
     pub m: f64,
     pub e: i64,

@@ -8,7 +8,7 @@ ghost use Rattle.std.specs.Float.Ieee.Exact.{HasValue};
 pub const LEADING: u64 = 0x10_0000_0000_0000;
 
 // sig * 2^exp units of 2^-1126. In that unit the smallest double still has a significand of 53 digits.
-#[derive(Drop)]
+#[derive(Clone, Copy)]
 pub struct Number {
     pub sig: u64,
     pub exp: u64,

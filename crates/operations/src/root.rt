@@ -10,7 +10,7 @@ use crate::basic::is_finite;
 use crate::parts::{LEADING, parts};
 
 // A root being worked: the digits of the radicand that are to come, the digits of the root, and the remainder of what was taken in.
-#[derive(Drop)]
+#[derive(Clone, Copy)]
 struct State {
     radicand: u64,
     root: u64,
@@ -34,7 +34,7 @@ fn step(s: State) -> State
 }
 
 // A root in whole numbers, as its 54 digits or as a double's pattern, and the rounds that it took.
-#[derive(Drop)]
+#[derive(Clone, Copy)]
 struct Worked {
     root: u64,
     rounds: u64,
@@ -77,7 +77,7 @@ fn root_bits(b: u64) -> Worked
 }
 
 // A root, and the rounds that it took.
-#[derive(Drop)]
+#[derive(Clone, Copy)]
 pub struct Counted {
     pub root: f64,
     pub rounds: u64,

@@ -1,5 +1,5 @@
 // The three energies of a case, in the order of the answer.
-#[derive(Drop)]
+#[derive(Clone, Copy)]
 pub struct Contributions {
     pub hard_sphere: f64,
     pub reference: f64,

@@ -1,5 +1,5 @@
 // uvtheory/eos/mod.rs: which perturbation.
-#[derive(Drop)]
+#[derive(Clone, Copy)]
 pub enum Perturbation {
     BarkerHenderson,
     WeeksChandlerAndersen,

@@ -11,7 +11,7 @@ use elementary::logarithm::ln_1p;
 use operations::basic::div;
 
 // The four zeta of the fractions.
-#[derive(Drop)]
+#[derive(Clone, Copy)]
 pub struct Zeta {
     pub z0: f64,
     pub z1: f64,

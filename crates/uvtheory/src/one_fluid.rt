@@ -9,7 +9,7 @@ use elementary::exponential::powf;
 use operations::basic::{div, powi};
 
 // The Rust's six values, in its order.
-#[derive(Drop)]
+#[derive(Clone, Copy)]
 pub struct OneFluid {
     pub rep: f64,
     pub att: f64,

@@ -11,7 +11,7 @@ use operations::basic::div;
 use operations::root::sqrt;
 
 // A mixture of n substances, 1 to 8, as sent. Only the first n of each row count, and of k_ij the first n(n-1)/2: i below j, row by row.
-#[derive(Drop)]
+#[derive(Clone, Copy)]
 pub struct Mixture {
     pub n: usize,
     pub rep: [f64; 8],
@@ -22,7 +22,7 @@ pub struct Mixture {
 }
 
 // feos_core's StateHD: temperature, and partial densities and mole fractions as separate fields, as sent.
-#[derive(Drop)]
+#[derive(Clone, Copy)]
 pub struct State {
     pub temperature: f64,
     pub partial_density: [f64; 8],
@@ -30,7 +30,7 @@ pub struct State {
 }
 
 // The combined values of a pair.
-#[derive(Drop)]
+#[derive(Clone, Copy)]
 pub struct Pair {
     pub rep: f64,
     pub att: f64,
@@ -39,7 +39,7 @@ pub struct Pair {
 }
 
 // Those of all pairs: matrices of n rows of n values, row by row.
-#[derive(Drop)]
+#[derive(Clone, Copy)]
 pub struct Combined {
     pub rep_ij: [f64; 64],
     pub att_ij: [f64; 64],

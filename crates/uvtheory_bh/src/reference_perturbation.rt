@@ -27,7 +27,7 @@ fn term(xi: f64, xj: f64, eta_a: f64, eta_b: f64, di: f64, dj: f64, sigma_ij: f6
 }
 
 // The values of a component: fraction, diameter and sigma.
-#[derive(Drop)]
+#[derive(Clone, Copy)]
 pub struct Component {
     pub x: f64,
     pub d: f64,

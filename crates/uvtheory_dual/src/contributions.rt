@@ -2,7 +2,7 @@
 // The three contributions on values with slopes, in the order of the answer.
 use dual::basic::Dual;
 
-#[derive(Drop)]
+#[derive(Clone, Copy)]
 pub struct Contributions {
     pub hard_sphere: Dual,
     pub reference: Dual,

@@ -10,7 +10,7 @@ use dual::basic::Dual;
 use dual::exponential::powf;
 
 // The Rust's six values, in its order.
-#[derive(Drop)]
+#[derive(Clone, Copy)]
 pub struct OneFluid {
     pub rep: Dual,
     pub att: Dual,

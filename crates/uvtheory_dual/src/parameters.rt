@@ -14,7 +14,7 @@ use dual::exponential::powf;
 use uvtheory::parameters::{CD_BH, Mixture, place};
 
 // StateHD on values with slopes.
-#[derive(Drop)]
+#[derive(Clone, Copy)]
 pub struct State {
     pub temperature: Dual,
     pub partial_density: [Dual; 8],
@@ -38,7 +38,7 @@ pub fn constants(xs: [f64; 8]) -> [Dual; 8]
 }
 
 // The combined values of a pair.
-#[derive(Drop)]
+#[derive(Clone, Copy)]
 pub struct Pair {
     pub rep: Dual,
     pub att: Dual,
@@ -47,7 +47,7 @@ pub struct Pair {
 }
 
 // Those of all pairs: matrices of n rows of n values, row by row.
-#[derive(Drop)]
+#[derive(Clone, Copy)]
 pub struct Combined {
     pub rep_ij: [Dual; 64],
     pub att_ij: [Dual; 64],

@@ -40,7 +40,7 @@ fn term(xi: Dual, xj: Dual, eta_a: Dual, eta_b: Dual, di: Dual, dj: Dual, sigma_
 }
 
 // The values of a component: fraction, diameter and sigma.
-#[derive(Drop)]
+#[derive(Clone, Copy)]
 pub struct Component {
     pub x: Dual,
     pub d: Dual,

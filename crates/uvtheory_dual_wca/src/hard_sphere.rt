@@ -91,14 +91,14 @@ pub fn q_of(t_x: Dual, nu: Dual, n: Dual, rs: Dual) -> Dual
 }
 
 // The place of the minimum, the diameter and the length of a component, and of each.
-#[derive(Drop)]
+#[derive(Clone, Copy)]
 pub struct ComponentLength {
     pub rm: Dual,
     pub d: Dual,
     pub length: Dual,
 }
 
-#[derive(Drop)]
+#[derive(Clone, Copy)]
 pub struct ComponentLengths {
     pub rm: [Dual; 8],
     pub d: [Dual; 8],
@@ -167,13 +167,13 @@ pub fn tau(li: Dual, lj: Dual, sigma_ij: Dual) -> Dual
 }
 
 // The place of the minimum and q of a pair, and of all pairs.
-#[derive(Drop)]
+#[derive(Clone, Copy)]
 pub struct PairLengths {
     pub rm: Dual,
     pub q: Dual,
 }
 
-#[derive(Drop)]
+#[derive(Clone, Copy)]
 pub struct LengthTables {
     pub rm: [Dual; 64],
     pub q: [Dual; 64],

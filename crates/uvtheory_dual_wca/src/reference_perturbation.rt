@@ -50,7 +50,7 @@ fn term(
 }
 
 // The values of a component: fraction, place of the minimum, diameter and length.
-#[derive(Drop)]
+#[derive(Clone, Copy)]
 pub struct Component {
     pub x: Dual,
     pub rm: Dual,

@@ -1,7 +1,7 @@
 // The three contributions on ranges, in the order of the answer.
 use range::basic::Range;
 
-#[derive(Drop)]
+#[derive(Clone, Copy)]
 pub struct Contributions {
     pub hard_sphere: Range,
     pub reference: Range,

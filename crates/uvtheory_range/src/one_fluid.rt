@@ -9,7 +9,7 @@ use range::basic::Range;
 use range_elementary::exponential::powf;
 
 // The Rust's six values, in its order.
-#[derive(Drop)]
+#[derive(Clone, Copy)]
 pub struct OneFluid {
     pub rep: Range,
     pub att: Range,

@@ -13,7 +13,7 @@ use range_elementary::exponential::powf;
 use uvtheory::parameters::{CD_BH, Mixture, place};
 
 // StateHD on ranges.
-#[derive(Drop)]
+#[derive(Clone, Copy)]
 pub struct State {
     pub temperature: Range,
     pub partial_density: [Range; 8],
@@ -37,7 +37,7 @@ pub fn constants(xs: [f64; 8]) -> [Range; 8]
 }
 
 // The combined values of a pair.
-#[derive(Drop)]
+#[derive(Clone, Copy)]
 pub struct Pair {
     pub rep: Range,
     pub att: Range,
@@ -46,7 +46,7 @@ pub struct Pair {
 }
 
 // Those of all pairs: matrices of n rows of n values, row by row.
-#[derive(Drop)]
+#[derive(Clone, Copy)]
 pub struct Combined {
     pub rep_ij: [Range; 64],
     pub att_ij: [Range; 64],

@@ -47,7 +47,7 @@ fn term(
 }
 
 // The values of a component: fraction, diameter and sigma.
-#[derive(Drop)]
+#[derive(Clone, Copy)]
 pub struct Component {
     pub x: Range,
     pub d: Range,

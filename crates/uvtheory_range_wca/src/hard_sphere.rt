@@ -90,14 +90,14 @@ pub fn q_of(t_x: Range, nu: Range, n: Range, rs: Range) -> Range
 }
 
 // The place of the minimum, the diameter and the length of a component, and of each.
-#[derive(Drop)]
+#[derive(Clone, Copy)]
 pub struct ComponentLength {
     pub rm: Range,
     pub d: Range,
     pub length: Range,
 }
 
-#[derive(Drop)]
+#[derive(Clone, Copy)]
 pub struct ComponentLengths {
     pub rm: [Range; 8],
     pub d: [Range; 8],
@@ -166,13 +166,13 @@ pub fn tau(li: Range, lj: Range, sigma_ij: Range) -> Range
 }
 
 // The place of the minimum and q of a pair, and of all pairs.
-#[derive(Drop)]
+#[derive(Clone, Copy)]
 pub struct PairLengths {
     pub rm: Range,
     pub q: Range,
 }
 
-#[derive(Drop)]
+#[derive(Clone, Copy)]
 pub struct LengthTables {
     pub rm: [Range; 64],
     pub q: [Range; 64],

@@ -49,7 +49,7 @@ fn term(
 }
 
 // The values of a component: fraction, place of the minimum, diameter and length.
-#[derive(Drop)]
+#[derive(Clone, Copy)]
 pub struct Component {
     pub x: Range,
     pub rm: Range,

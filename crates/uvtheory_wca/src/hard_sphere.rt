@@ -98,7 +98,7 @@ pub fn q_of(t_x: f64, nu: f64, n: f64, rs: f64) -> f64
 }
 
 // The place of the minimum, the diameter and the length of each component.
-#[derive(Drop)]
+#[derive(Clone, Copy)]
 pub struct ComponentLengths {
     pub rm: [f64; 8],
     pub d: [f64; 8],
@@ -141,13 +141,13 @@ pub fn tau(li: f64, lj: f64, sigma_ij: f64) -> f64
 }
 
 // The place of the minimum and q of a pair, and of all pairs.
-#[derive(Drop)]
+#[derive(Clone, Copy)]
 pub struct PairLengths {
     pub rm: f64,
     pub q: f64,
 }
 
-#[derive(Drop)]
+#[derive(Clone, Copy)]
 pub struct LengthTables {
     pub rm: [f64; 64],
     pub q: [f64; 64],

@@ -1,0 +1,12 @@
+use Rattle.std.proofs.Common.{◌≡◌, T, ℤ, sym, subst, w64, to_z, of_z}
+use lib.Ieee.{binary64, in_float}
+use mir.ValLaws.{to_z-of_z}
+use Rattle.arithmetic.specs.Recipes as R
+use Rattle.elementary.proofs.logarithm.ln_of.Goals as goal
+
+pub int_to_float-result : goal.int_to_float-result
+int_to_float-result c = subst (λ (z : ℤ). T (in_float binary64 z)) (sym (to_z-of_z w64 c.args.e c.ranges.e)) c.requires
+
+pub returns : goal.returns
+unfolding R.ln_of
+returns c = rw (c.series.ensures, c.div.ensures, to_z-of_z w64 c.args.e c.ranges.e)

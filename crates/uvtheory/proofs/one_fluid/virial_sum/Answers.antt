@@ -1,0 +1,57 @@
+use Rattle.std.proofs.Common.{◌≡◌, ◌-◌, ◌*◌, ◌/◌, ◌%◌, ◌≤◌, refl, arith}
+use Rattle.arithmetic.specs.Arithmetic.{sum_by}
+use Rattle.arithmetic.specs.Doubles.{guarded}
+use Rattle.uvtheory.specs.Rows.{row, matrix}
+use Rattle.uvtheory.specs.OneFluid as F
+use Rattle.uvtheory.proofs.Loops.{sum_step, at_pair, Bounds, pair_within, square_fits}
+use Rattle.uvtheory.proofs.one_fluid.virial_sum.Goals as goal
+
+pub loop-ij-init : goal.loop-ij-init
+unfolding sum_by
+loop-ij-init c = (omega arith, refl)
+
+pub loop-ij-preserved : goal.loop-ij-preserved
+loop-ij-preserved c = (omega arith, rw (c.powi.ensures, c.loop-ij.invariant.1, sum_step guarded (λ n f. refl), at_pair))
+
+pub returns : goal.returns
+unfolding F.weighted_pairs
+returns c = let e : c.loop-ij.ij ≡ c.args.n * c.args.n = omega arith in rw e at c.loop-ij.invariant.1
+
+pub overflow_mul-n : goal.overflow_mul-n
+overflow_mul-n c = square_fits c.args.n c.requires
+
+pub nonzero_div-sum : goal.nonzero_div-sum
+nonzero_div-sum c = (pair_within c.args.n c.loop-ij.ij c.requires (omega arith)).some
+
+pub offset_bounds-x-ij : goal.offset_bounds-x-ij
+offset_bounds-x-ij c = (pair_within c.args.n c.loop-ij.ij c.requires (omega arith)).row.fits
+
+pub bounds-x-ij : goal.bounds-x-ij
+bounds-x-ij c = (pair_within c.args.n c.loop-ij.ij c.requires (omega arith)).row.below
+
+pub nonzero_rem-sum : goal.nonzero_rem-sum
+nonzero_rem-sum c = (pair_within c.args.n c.loop-ij.ij c.requires (omega arith)).some
+
+pub offset_bounds-x-ij-in-loop-ij : goal.offset_bounds-x-ij-in-loop-ij
+offset_bounds-x-ij-in-loop-ij c = (pair_within c.args.n c.loop-ij.ij c.requires (omega arith)).column.fits
+
+pub bounds-x-ij-in-loop-ij : goal.bounds-x-ij-in-loop-ij
+bounds-x-ij-in-loop-ij c = (pair_within c.args.n c.loop-ij.ij c.requires (omega arith)).column.below
+
+pub offset_bounds-sigma_ij-ij : goal.offset_bounds-sigma_ij-ij
+offset_bounds-sigma_ij-ij c = (pair_within c.args.n c.loop-ij.ij c.requires (omega arith)).pair.fits
+
+pub bounds-sigma_ij-ij : goal.bounds-sigma_ij-ij
+bounds-sigma_ij-ij c = (pair_within c.args.n c.loop-ij.ij c.requires (omega arith)).pair.below
+
+pub offset_bounds-f-ij : goal.offset_bounds-f-ij
+offset_bounds-f-ij c = (pair_within c.args.n c.loop-ij.ij c.requires (omega arith)).pair.fits
+
+pub bounds-f-ij : goal.bounds-f-ij
+bounds-f-ij c = (pair_within c.args.n c.loop-ij.ij c.requires (omega arith)).pair.below
+
+pub overflow_add-ij : goal.overflow_add-ij
+overflow_add-ij c = (pair_within c.args.n c.loop-ij.ij c.requires (omega arith)).pair.next
+
+pub loop-ij-smaller : goal.loop-ij-smaller
+loop-ij-smaller c = (pair_within c.args.n c.loop-ij.ij c.requires (omega arith)).less

@@ -1,0 +1,15 @@
+use Rattle.std.proofs.Common.{◌≡◌, refl, arith, rules}
+use Rattle.uvtheory.proofs.Combined.{pair_itself, pair_flip}
+use Rattle.uvtheory.proofs.parameters.pair_at.Goals as goal
+
+pub returns-then-j-i : goal.returns-then-j-i
+returns-then-j-i c = pair_flip c.args.i c.args.j c.if-j-i.true (c.requires.pair_of c.if-j-i.true)
+
+pub returns : goal.returns
+returns c =
+    let i = c.args.i in
+    let e : i ≡ c.args.j = omega (arith, c.if-j-i.false, c.if-i-j.false) in
+    pair_itself i c.args.j e refl refl refl refl
+
+pub returns-then-i-j : goal.returns-then-i-j
+returns-then-i-j c = c.pair_of.ensures
