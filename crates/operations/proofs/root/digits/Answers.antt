@@ -1,6 +1,5 @@
-use Prim.Native.Nat.{◌+◌, ◌≤◌, ◌<◌}
+use Prim.Native.Nat.{◌+◌, ◌<◌}
 use native.Mathlib.Omega.{arith}
-use mathlib.Core.Logic.{inl, inr}
 use Rattle.arithmetic.proofs.RootDigits.{none_found, root_below, early, another, onward, ends}
 use Rattle.operations.proofs.root.digits.Goals as goal
 
@@ -30,7 +29,4 @@ returns c =
     let l = c.loop-s in
     let pre = c.requires in
     ends _ _ _ _ _ l.invariant.0 pre.0 pre.1 l.invariant.1
-    (elim c.if-rounds-lt54.either [
-      | inl x ↦ inr x.1
-      | inr x ↦ let y : l.s.remainder ≤ 0 = x in inl (omega arith)
-    ])
+    (grind arith)
