@@ -9,7 +9,7 @@ use operations::basic::{div, is_finite};
 use operations::root::sqrt;
 
 // A value and its slope along total density.
-#[derive(Drop)]
+#[derive(Clone, Copy)]
 pub struct Dual {
     pub value: f64,
     pub slope: f64,

@@ -1,10 +1,6 @@
 -- The loop's invariant: r is the product of i factors.
-use Prim.Native.Nat.{ℕ, zero, suc, ◌≤◌, ◌-◌, ◌+◌}
-use mathlib.Core.Path.{◌≡◌, refl, ap, ◌∙◌}
-use native.Mathlib.Omega.{arith}
-use native.Mathlib.Numerals.{add-one}
-use lib.Ieee.{Float, binary64, mul}
-use Rattle.arithmetic.specs.Arithmetic.{power_by}
+use Prim.Native.Nat.{◌≤◌, ◌-◌}
+use mathlib.Core.Path.{◌≡◌}
 use Rattle.arithmetic.specs.Doubles.{guarded}
 use Rattle.operations.proofs.basic.powi.Given as goal
 

@@ -7,7 +7,6 @@ use lib.Dec.{T}
 use lib.Ieee.{Float, binary64, eq, fits, to_bits, of_bits, nan_bits}
 use lib.Ieee.Bits.{to_bits-lt}
 use lib.Ieee.Scale.{finite}
-use borrow.Author.Rules.{rules}
 use Rattle.arithmetic.specs.Next.{bits_down, next_down}
 use Rattle.arithmetic.proofs.Next.{bits_down_is, bits_down_real, next_down_zero, finite_not_nan, pattern_room}
 use Rattle.arithmetic.proofs.Tests.{is_so, where_then, where_else}

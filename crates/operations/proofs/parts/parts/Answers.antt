@@ -3,7 +3,6 @@ use mathlib.Core.Path.{◌≡◌}
 use Prim.Native.Nat.{◌-◌, ◌/◌, ◌^◌, ◌≤◌, ◌<◌}
 use native.Mathlib.Omega.{arith}
 use lib.Count.{count_leading_zeros}
-use borrow.Author.Rules.{rules}
 use Rattle.arithmetic.proofs.Significand.{shift_room, subnormal, normal}
 use Rattle.operations.proofs.parts.parts.Goals as goal
 

@@ -4,14 +4,13 @@ use Prim.Native.Nat.{ℕ, ◌*◌}
 use native.Mathlib.Nat.{mul-pos, eq-zero-or-pos}
 use native.Mathlib.Omega.{arith}
 use mathlib.Core.Bool.{Bool, true, false, true≢false}
-use mathlib.Core.Logic.{inl, inr, ⊎_elim}
+use mathlib.Core.Logic.{inl, inr}
 use lib.IntN.{pos}
 use lib.Dec.{T, eqb, eqb→eq, not_T}
 use lib.Ieee.{Float, nan, inf, fin, binary64, up, down, fits, of_bits, lt, eq}
 use lib.Ieee.Bits.{cond_no, of_bits-to_bits}
 use lib.Ieee.Fits.{up_pos}
 use lib.Ieee.Scale.{finite}
-use borrow.Author.Rules.{rules}
 use borrow.Author.Tests.{ltb-false}
 use Rattle.arithmetic.specs.Root.{sqrt}
 use Rattle.arithmetic.specs.Rounds.{rounds}

@@ -1,11 +1,7 @@
-use mathlib.Core.Path.{◌≡◌, sym, ◌∙◌}
-use Prim.Native.Nat.{◌+◌, ◌-◌, ◌≤◌, ◌<◌}
+use Prim.Native.Nat.{◌+◌, ◌<◌}
 use native.Mathlib.Omega.{arith}
-use mathlib.Core.Logic.{◌⊎◌, inl, inr, ⊎_elim}
-use borrow.Author.Tests.{ltb-true, ltb-false}
-use Rattle.arithmetic.proofs.RootDigits.{Found, Onward, none_found, root_below, early, another, onward, ends}
+use Rattle.arithmetic.proofs.RootDigits.{none_found, root_below, early, another, onward, ends}
 use Rattle.operations.proofs.root.digits.Goals as goal
-use Rattle.operations.proofs.root.digits.Goals.{then-s-gt0, else-s-gt0+then-rounds-lt54}
 
 pub loop-s-init : goal.loop-s-init
 loop-s-init c = none_found c.args.a c.requires.1
@@ -19,12 +15,8 @@ loop-s-preserved c =
     let pre = c.requires in
     let r = c.step-s in
     let e = r.ensures in
-    let g : (l.rounds < 54) × (0 < l.s.radicand + l.s.remainder) =
-      elim c.if-s-gt0.branch [
-        | then-s-gt0 w ↦ (omega (arith, early _ _ _ _ _ l.invariant.0 w.if-s-gt0.true), omega (arith, w.if-s-gt0.true))
-        | else-s-gt0+then-rounds-lt54 w ↦
-          let x : 0 < l.s.remainder = w.if-rounds-lt54.true.0 in (w.if-rounds-lt54.true.1, omega arith)
-      ] in (
+    let f : 0 < l.s.radicand → l.rounds < 54 = λ q. omega (arith, early _ _ _ _ _ l.invariant.0 q) in
+    let g : (l.rounds < 54) × (0 < l.s.radicand + l.s.remainder) = grind (arith, f) in (
       another _ _ _ _ _ l.invariant.0 r.result.radicand r.result.root r.result.remainder g.0 e.0 e.1 e.2 e.3,
       onward _ _ _ _ _ l.invariant.0 pre.0 pre.1 g.0 g.1 l.invariant.1,
     )
@@ -37,7 +29,4 @@ returns c =
     let l = c.loop-s in
     let pre = c.requires in
     ends _ _ _ _ _ l.invariant.0 pre.0 pre.1 l.invariant.1
-    (elim c.if-rounds-lt54.either [
-      | inl x ↦ inr x.1
-      | inr x ↦ let y : l.s.remainder ≤ 0 = x in inl (omega arith)
-    ])
+    (grind arith)

@@ -1,10 +1,6 @@
 -- The loop keeps what proofs/RootDigits.antt of crate arithmetic says of the rounds, and its test tells whether the square of the digits found is the whole radicand.
-use mathlib.Core.Path.{◌≡◌, sym, ◌∙◌}
-use Prim.Native.Nat.{◌+◌, ◌-◌, ◌≤◌, ◌<◌}
-use native.Mathlib.Omega.{arith}
-use mathlib.Core.Logic.{◌⊎◌, inl, inr, ⊎_elim}
-use borrow.Author.Tests.{ltb-true, ltb-false}
-use Rattle.arithmetic.proofs.RootDigits.{Found, Onward, none_found, root_below, early, another, onward, ends}
+use Prim.Native.Nat.{◌-◌}
+use Rattle.arithmetic.proofs.RootDigits.{Found, Onward}
 use Rattle.operations.proofs.root.digits.Given as goal
 
 abbrev pub invariant-loop-s : goal.invariant-loop-s

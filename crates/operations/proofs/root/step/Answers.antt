@@ -5,7 +5,6 @@ use native.Mathlib.Omega.{arith}
 use mathlib.Core.Bool.{Bool, true, false, not}
 use lib.Dec.{T, leb, leb→le, nleb→lt}
 use mir.Val.{bool_byte}
-use borrow.Author.Rules.{rules}
 use Rattle.operations.proofs.root.step.Goals as goal
 
 -- with t = 4 * root + 1, and x the remainder once two more digits are taken in
