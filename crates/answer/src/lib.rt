@@ -1,4 +1,6 @@
 // The answers of document 01, and of M-100 for slopes: what a kind of call gives of a case, written as bytes.
+#![tactic(auto)]
+
 ghost use Rattle.std.specs.Prelude.{◌≡◌, ◌+◌, ◌*◌, ◌≤◌, [], ◌∷◌, length};
 ghost use Rattle.big_endian.specs.Bytes.{written};
 ghost use Rattle.answer.specs.Answer.{answer_bytes, answer_with, code_of};

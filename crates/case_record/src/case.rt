@@ -9,7 +9,7 @@ use uvtheory::eos::Perturbation;
 use uvtheory::parameters::{Mixture, State};
 
 // What a record asks for: which perturbation, of which mixture, in which state.
-#[derive(Drop)]
+#[derive(Clone, Copy)]
 pub struct Case {
     pub perturbation: Perturbation,
     pub mixture: Mixture,

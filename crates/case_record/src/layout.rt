@@ -5,7 +5,7 @@ ghost use Rattle.case_record.specs.Layout.{header_of, is_perturbation, layout_of
 use uvtheory::eos::Perturbation;
 
 // What a record says of itself, behind its length.
-#[derive(Drop)]
+#[derive(Clone, Copy)]
 pub struct Header {
     pub version: u8,
     pub perturbation: u8,
@@ -13,7 +13,7 @@ pub struct Header {
 }
 
 // Where the fields behind the substances begin, counted in doubles behind n, and how many doubles there are.
-#[derive(Drop)]
+#[derive(Clone, Copy)]
 pub struct Layout {
     pub k_ij: usize,
     pub temperature: usize,

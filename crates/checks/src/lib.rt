@@ -1,4 +1,6 @@
 // The checks of a record, in stages: the envelope, the substances, the state.
+#![tactic(auto)]
+
 ghost use Rattle.std.specs.Prelude.{◌≡◌, ◌≤◌, length};
 ghost use Rattle.checks.specs.Checks.{all_inside, envelope, first_failing, inside, state, state_inside, substances, substances_inside};
 
@@ -9,7 +11,7 @@ use uvtheory::hard_sphere::sum;
 use uvtheory::parameters::{Mixture, State};
 
 // A closed interval: its lower and its upper limit.
-#[derive(Drop)]
+#[derive(Clone, Copy)]
 pub struct Interval(pub f64, pub f64);
 
 const REP: Interval = Interval(8.0, 48.0);

@@ -15,7 +15,7 @@ use operations::next::{next_down, next_up};
 use operations::root::sqrt;
 
 // Two ends. A range whose rule failed has ends that are NaN.
-#[derive(Drop)]
+#[derive(Clone, Copy)]
 pub struct Range {
     pub lower: f64,
     pub upper: f64,

@@ -1,0 +1,14 @@
+use mathlib.Core.Path.{sym, ◌∙◌}
+use Rattle.arithmetic.specs.Basic.{below}
+use Rattle.range.proofs.Testing.{below_test, failed_case}
+use Rattle.range.proofs.basic.Range.if_below.Goals as goal
+
+pub returns-then-is_ok : goal.returns-then-is_ok
+returns-then-is_ok c =
+    let a = c.args in
+    c.agreed-x.ensures ∙ sym (below_test a.self (sym c.is_ok.ensures ∙ c.if-is_ok.true) a.t c.requires a.a a.b)
+
+pub returns-else-is_ok : goal.returns-else-is_ok
+returns-else-is_ok c =
+    let a = c.args in
+    c.failed.ensures ∙ sym (failed_case (below a.t) a.self a.a a.b (sym c.is_ok.ensures ∙ c.if-is_ok.false))

@@ -1,0 +1,34 @@
+-- Above zero by its law, else as any.
+use mathlib.Core.Path.{sym, subst, ◌∙◌}
+use Rattle.std.proofs.Common.{rules}
+use Rattle.std.specs.Prelude.{◌≡◌, T, Bool, true}
+use Rattle.range.proofs.Positive.{Factors, uppers_finite, product_in_order, positive_product}
+use Rattle.range.proofs.basic.Range.mul.Goals as goal
+
+so : {b : Bool} → b ≡ true → T b
+so e = subst T (sym e) tt
+
+pub neighbours-requires : goal.neighbours-requires
+neighbours-requires c =
+    let t : Factors c.args.self c.args.other = record {
+      fits_r = search rules;
+      fits_s = search rules;
+      positive_r = sym c.is_positive.ensures ∙ c.if-is_positive.true;
+      positive_s = sym c.is_positive-then-is_positive.ensures ∙ c.if-is_positive-2.true;
+    } in
+    let finite = uppers_finite _ _ t (so c.if-u.true) in
+    (so c.if-l.true, product_in_order _ _ t finite.0 finite.1, so c.if-u.true)
+
+pub returns-then-u : goal.returns-then-u
+returns-then-u c =
+    let t : Factors c.args.self c.args.other = record {
+      fits_r = search rules;
+      fits_s = search rules;
+      positive_r = sym c.is_positive.ensures ∙ c.if-is_positive.true;
+      positive_s = sym c.is_positive-then-is_positive.ensures ∙ c.if-is_positive-2.true;
+    } in
+    let finite = uppers_finite _ _ t (so c.if-u.true) in
+    c.neighbours.ensures ∙ sym (positive_product _ _ t finite.0 finite.1)
+
+pub returns : goal.returns
+returns c = c.product_of-product.ensures

@@ -1,0 +1,20 @@
+-- The loop's invariant: the first k pairs stand in their places.
+use Prim.Native.Nat.{ℕ, ◌≤◌, ◌<◌, ◌-◌, ◌*◌}
+use mathlib.Core.Path.{refl, ◌∙◌}
+use mathlib.Core.List.{List}
+use lib.Ieee.{Float, nan}
+use native.Mathlib.Omega.{arith}
+use Rattle.arithmetic.specs.Doubles.{guarded}
+use Rattle.uvtheory.specs.Rows.{matrix}
+use Rattle.uvtheory.specs.Bh.AttractivePerturbation as F
+use Rattle.uvtheory.proofs.Loops.{at_pair, pair_within, square_le, Filled, one_more, mirror, Bounds, square_fits}
+use Rattle.uvtheory_bh.proofs.attractive_perturbation.delta_b2_ij.Given as goal
+
+abbrev pub worked : ℕ → Float → List Float → List Float → List Float → ℕ → ℕ → Float
+worked n t rep_ij att_ij eps_k_ij i j = F.delta_b2 guarded (guarded.div t (matrix n eps_k_ij i j)) (matrix n rep_ij i j) (matrix n att_ij i j)
+
+abbrev pub invariant-loop-k : goal.invariant-loop-k
+invariant-loop-k l = (l.k ≤ l.n * l.n) × Filled nan l.n l.k l.b2 (worked l.n l.t l.rep_ij l.att_ij l.eps_k_ij)
+
+abbrev pub decreases-loop-k : goal.decreases-loop-k
+decreases-loop-k l = l.n * l.n - l.k

@@ -1,0 +1,15 @@
+use Prim.Native.Nat.{◌≤◌, ◌-◌, ◌*◌, ◌/◌, ◌%◌}
+use mathlib.Core.Path.{◌≡◌, refl}
+use native.Mathlib.Omega.{arith}
+use Rattle.arithmetic.specs.Arithmetic.{sum_by}
+use Rattle.arithmetic.specs.Doubles.{guarded}
+use Rattle.uvtheory.specs.Rows.{row, matrix}
+use Rattle.uvtheory.specs.Bh.ReferencePerturbation as F
+use Rattle.uvtheory.proofs.Loops.{sum_step, at_pair, Bounds, pair_within, square_fits}
+use Rattle.uvtheory_bh.proofs.reference_perturbation.pair_sum.Given as goal
+
+abbrev pub invariant-loop-k : goal.invariant-loop-k
+invariant-loop-k s = (s.k ≤ s.n * s.n) × (s.sum ≡ guarded.sum s.k (λ l. F.term_ij guarded (row s.x) (row s.d) (row s.sigma) (matrix s.n s.sigma_ij) (matrix s.n s.rep_ij) s.eta (l / s.n) (l % s.n)))
+
+abbrev pub decreases-loop-k : goal.decreases-loop-k
+decreases-loop-k l = l.n * l.n - l.k

@@ -1,0 +1,16 @@
+use Prim.Native.Nat.{◌≤◌, ◌-◌, ◌*◌, ◌/◌, ◌%◌}
+use mathlib.Core.Path.{◌≡◌, refl}
+use native.Mathlib.Omega.{arith}
+use Rattle.arithmetic.specs.Arithmetic.{sum_by}
+use Rattle.arithmetic.specs.Doubles.{guarded}
+use Rattle.uvtheory.specs.Tables.{table}
+use Rattle.uvtheory.specs.Rows.{row, matrix}
+use Rattle.uvtheory.specs.Wca.ReferencePerturbation as F
+use Rattle.uvtheory.proofs.Loops.{sum_step, at_pair, Bounds, pair_within, square_fits}
+use Rattle.uvtheory_wca.proofs.reference_perturbation.pair_sum.Given as goal
+
+abbrev pub invariant-loop-k : goal.invariant-loop-k
+invariant-loop-k s = (s.k ≤ s.n * s.n) × (s.sum ≡ guarded.sum s.k (λ l. F.term_ij guarded (table s.ta) (table s.tb) (row s.x) (row s.rm) (row s.d) (row s.length) (matrix s.n s.q) (matrix s.n s.sigma_ij) (matrix s.n s.rep_ij) s.eta (l / s.n) (l % s.n)))
+
+abbrev pub decreases-loop-k : goal.decreases-loop-k
+decreases-loop-k l = l.n * l.n - l.k
