@@ -1,4 +1,6 @@
 // The port on ranges, in the modules of crate uvtheory: each function is proved equal to its formula in ranges.
+#![tactic(auto)]
+
 pub mod beta_eff;
 pub mod contributions;
 pub mod hard_sphere;

@@ -4,7 +4,6 @@ use Rattle.arithmetic.specs.Doubles.{guarded}
 use Rattle.uvtheory.specs.Inputs.{state}
 use Rattle.uvtheory.proofs.Arrays.{spherical_of}
 use Rattle.uvtheory.proofs.Combined.{rep_symmetric, att_symmetric, epsilon_symmetric}
-use Rattle.uvtheory_wca.specs.Lengths.{LengthsOf}
 use Rattle.uvtheory_wca.proofs.Lengths.{lengths_are}
 use Rattle.uvtheory_b3.proofs.residual_helmholtz_energy_contributions_b3.Goals as goal
 

@@ -1,5 +1,5 @@
 -- The tests tell the cases of the recipe. Of an infinite base ln is NaN, and so is all after it.
-use Rattle.std.proofs.Common.{◌≡◌, Bool, true, false, cond, T, sym, refl, ap, ◌∙◌, subst, ⊎_elim}
+use Rattle.std.proofs.Common.{◌≡◌, Bool, true, false, cond, T, sym, refl, ap, ◌∙◌, subst}
 use mathlib.Core.Bool.{false≢true}
 use lib.Ieee.{Float, nan, inf, fin, binary64, lt, mul, of_bits}
 use lib.Ieee.Scale.{finite}

@@ -1,7 +1,7 @@
 -- The tests tell the cases of the recipe.
-use Rattle.std.proofs.Common.{◌≡◌, ◌<◌, Bool, true, false, T, ℤ, neg_ℤ, sym, refl, ap, ◌∙◌, subst, ap₂, ⊎_elim, arith, w64, to_z, of_z}
+use Rattle.std.proofs.Common.{◌≡◌, Bool, true, false, T, ℤ, neg_ℤ, sym, refl, ap, ◌∙◌, subst, ap₂, arith, w64}
 use mathlib.Core.Option.{some}
-use lib.Ieee.{Float, nan, inf, fin, binary64, fits, to_bits, of_bits, in_float, lt}
+use lib.Ieee.{Float, nan, inf, fin, binary64, to_bits, of_bits, in_float, lt}
 use lib.Ieee.Bits.{of_bits-to_bits, is_true}
 use lib.Ieee.Scale.{finite}
 use mir.ValLaws.{to_z-of_z}

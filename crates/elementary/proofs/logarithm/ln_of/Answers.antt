@@ -1,4 +1,4 @@
-use Rattle.std.proofs.Common.{◌≡◌, T, ℤ, sym, subst, w64, to_z, of_z}
+use Rattle.std.proofs.Common.{T, ℤ, sym, subst, w64}
 use lib.Ieee.{binary64, in_float}
 use mir.ValLaws.{to_z-of_z}
 use Rattle.arithmetic.specs.Recipes as R

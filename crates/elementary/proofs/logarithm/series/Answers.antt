@@ -1,4 +1,3 @@
-use Rattle.std.proofs.Common.{rules}
 use Rattle.arithmetic.specs.Recipes as R
 use Rattle.elementary.proofs.logarithm.series.Goals as goal
 

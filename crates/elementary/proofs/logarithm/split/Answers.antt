@@ -1,5 +1,5 @@
 -- The laws are in proofs/Reduction.antt; the rest says that the exponent comes back from the i64 as it was.
-use Rattle.std.proofs.Common.{◌≡◌, ℕ, suc, ◌+◌, ◌*◌, ◌^◌, ◌<◌, false, T, ℤ, pos, ◌-ℤ◌, neg_ℤ, sym, refl, ap, ◌∙◌, subst, arith, w64, SFits, to_z, of_z, rules}
+use Rattle.std.proofs.Common.{◌≡◌, ℕ, suc, ◌+◌, ◌*◌, ◌^◌, ◌<◌, false, T, ℤ, pos, ◌-ℤ◌, neg_ℤ, sym, refl, ap, ◌∙◌, subst, arith, w64, SFits, to_z, of_z}
 use mathlib.Core.Option.{some}
 use lib.IntN.{sub_ℕ}
 use lib.Ieee.{Float, fin, binary64, of_bits, in_float}

@@ -1,8 +1,6 @@
-use Rattle.std.proofs.Common.{◌≡◌, ◌+◌, ◌-◌, ◌<◌, length, get_or, drop, add-one, arith, drop-cons, rules}
+use Rattle.std.proofs.Common.{◌≡◌, ◌+◌, ◌-◌, length, add-one, arith, drop-cons}
 use lib.Seq.{drop-length}
 use lib.Ieee.{nan}
-use Rattle.arithmetic.specs.Recipes as R
-use Rattle.arithmetic.specs.Doubles.{plain}
 use Rattle.elementary.proofs.series.horner.Goals as goal
 
 pub loop-k-init : goal.loop-k-init

@@ -1,6 +1,5 @@
 -- The loop's invariant: p is Horner's value over the coefficients from k on.
-use Rattle.std.proofs.Common.{◌≡◌, ◌+◌, ◌-◌, ◌<◌, length, get_or, drop, add-one, arith, drop-cons, rules}
-use lib.Seq.{drop-length}
+use Rattle.std.proofs.Common.{◌≡◌, ◌+◌, ◌<◌, length, get_or, drop}
 use lib.Ieee.{nan}
 use Rattle.arithmetic.specs.Recipes as R
 use Rattle.arithmetic.specs.Doubles.{plain}

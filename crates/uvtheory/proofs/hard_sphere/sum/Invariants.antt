@@ -1,8 +1,6 @@
-use Rattle.std.proofs.Common.{◌≡◌, ◌-◌, ◌≤◌, refl, arith, rules}
-use Rattle.arithmetic.specs.Arithmetic.{sum_by}
+use Rattle.std.proofs.Common.{◌≡◌, ◌-◌, ◌≤◌}
 use Rattle.arithmetic.specs.Doubles.{guarded}
 use Rattle.uvtheory.specs.Rows.{row}
-use Rattle.uvtheory.proofs.Loops.{sum_step}
 use Rattle.uvtheory.proofs.hard_sphere.sum.Given as goal
 
 abbrev pub invariant-loop-i : goal.invariant-loop-i

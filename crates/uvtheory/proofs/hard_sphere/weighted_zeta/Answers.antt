@@ -1,8 +1,6 @@
-use Rattle.std.proofs.Common.{◌≡◌, ℕ, ◌-◌, ◌≤◌, List, refl, arith, rules}
-use lib.Ieee.{Float}
+use Rattle.std.proofs.Common.{◌≡◌, refl, arith}
 use Rattle.arithmetic.specs.Arithmetic.{sum_by, power_by}
 use Rattle.arithmetic.specs.Doubles.{guarded}
-use Rattle.uvtheory.specs.Rows.{row}
 use Rattle.uvtheory.specs.HardSphere as F
 use Rattle.uvtheory.proofs.Loops.{sum_step}
 use Rattle.uvtheory.proofs.hard_sphere.weighted_zeta.Goals as goal

@@ -1,10 +1,7 @@
-use Rattle.std.proofs.Common.{◌≡◌, ℕ, ◌-◌, ◌≤◌, List, refl, arith, rules}
+use Rattle.std.proofs.Common.{◌≡◌, ℕ, ◌-◌, ◌≤◌, List}
 use lib.Ieee.{Float}
-use Rattle.arithmetic.specs.Arithmetic.{sum_by, power_by}
 use Rattle.arithmetic.specs.Doubles.{guarded}
 use Rattle.uvtheory.specs.Rows.{row}
-use Rattle.uvtheory.specs.HardSphere as F
-use Rattle.uvtheory.proofs.Loops.{sum_step}
 use Rattle.uvtheory.proofs.hard_sphere.weighted_zeta.Given as goal
 
 abbrev term : List Float → List Float → List Float → ℕ → ℕ → Float

@@ -1,4 +1,4 @@
-use Rattle.std.proofs.Common.{refl, rules}
+use Rattle.std.proofs.Common.{refl}
 use Rattle.uvtheory.proofs.one_fluid.one_fluid_properties.Goals as goal
 
 pub returns : goal.returns

@@ -1,9 +1,8 @@
-use Rattle.std.proofs.Common.{◌≡◌, ◌-◌, ◌*◌, ◌/◌, ◌%◌, ◌≤◌, refl, arith}
+use Rattle.std.proofs.Common.{◌≡◌, ◌*◌, refl, arith}
 use Rattle.arithmetic.specs.Arithmetic.{sum_by, power_by}
 use Rattle.arithmetic.specs.Doubles.{guarded}
-use Rattle.uvtheory.specs.Rows.{row, matrix}
 use Rattle.uvtheory.specs.OneFluid as F
-use Rattle.uvtheory.proofs.Loops.{sum_step, at_pair, Bounds, pair_within, square_fits}
+use Rattle.uvtheory.proofs.Loops.{sum_step, at_pair, pair_within, square_fits}
 use Rattle.uvtheory.proofs.one_fluid.weighted_sigma3.Goals as goal
 
 pub loop-k-init : goal.loop-k-init

@@ -1,9 +1,6 @@
-use Rattle.std.proofs.Common.{◌≡◌, ◌-◌, ◌*◌, ◌/◌, ◌%◌, ◌≤◌, refl, arith}
-use Rattle.arithmetic.specs.Arithmetic.{sum_by, power_by}
+use Rattle.std.proofs.Common.{◌≡◌, ◌-◌, ◌*◌, ◌/◌, ◌%◌, ◌≤◌}
 use Rattle.arithmetic.specs.Doubles.{guarded}
 use Rattle.uvtheory.specs.Rows.{row, matrix}
-use Rattle.uvtheory.specs.OneFluid as F
-use Rattle.uvtheory.proofs.Loops.{sum_step, at_pair, Bounds, pair_within, square_fits}
 use Rattle.uvtheory.proofs.one_fluid.weighted_sigma3.Given as goal
 
 abbrev pub invariant-loop-k : goal.invariant-loop-k

@@ -1,4 +1,4 @@
-use Rattle.std.proofs.Common.{refl, rules}
+use Rattle.std.proofs.Common.{refl}
 use Rattle.uvtheory.specs.PackingFraction as F
 use Rattle.uvtheory.proofs.packing_fraction.coefficient_b.Goals as goal
 

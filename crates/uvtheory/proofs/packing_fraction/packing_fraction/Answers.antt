@@ -1,8 +1,6 @@
-use Rattle.std.proofs.Common.{◌≡◌, ◌-◌, ◌≤◌, refl, arith, rules}
+use Rattle.std.proofs.Common.{◌≡◌, refl, arith}
 use Rattle.arithmetic.specs.Arithmetic.{sum_by, power_by}
 use Rattle.arithmetic.specs.Doubles.{guarded}
-use Rattle.uvtheory.specs.Rows.{row}
-use Rattle.uvtheory.specs.Literals as N
 use Rattle.uvtheory.specs.PackingFraction as F
 use Rattle.uvtheory.proofs.Loops.{sum_step}
 use Rattle.uvtheory.proofs.packing_fraction.packing_fraction.Goals as goal

@@ -1,4 +1,4 @@
-use Rattle.std.proofs.Common.{refl, rules}
+use Rattle.std.proofs.Common.{refl}
 use Rattle.uvtheory.specs.Parameters as F
 use Rattle.uvtheory.proofs.parameters.bh_coefficients.Goals as goal
 

@@ -1,8 +1,8 @@
-use Rattle.std.proofs.Common.{◌-◌, ◌*◌, ◌<◌, ◌≤◌, refl, arith}
+use Rattle.std.proofs.Common.{◌*◌, ◌<◌, refl, arith}
 use lib.Ieee.{nan}
 use Rattle.arithmetic.specs.Doubles.{guarded}
 use Rattle.uvtheory.specs.Inputs.{parameters}
-use Rattle.uvtheory.proofs.Loops.{row_of, column_of, pair_within, square_le, Filled, one_more, mirror, Bounds, square_fits}
+use Rattle.uvtheory.proofs.Loops.{row_of, column_of, pair_within, square_le, one_more, mirror, square_fits}
 use Rattle.uvtheory.proofs.parameters.combine.Goals as goal
 
 pub loop-k-init : goal.loop-k-init

@@ -1,9 +1,9 @@
 -- The loop's invariant: the first k pairs of each matrix stand in their places.
-use Rattle.std.proofs.Common.{◌-◌, ◌*◌, ◌<◌, ◌≤◌, refl, arith}
+use Rattle.std.proofs.Common.{◌-◌, ◌*◌, ◌≤◌}
 use lib.Ieee.{nan}
 use Rattle.arithmetic.specs.Doubles.{guarded}
 use Rattle.uvtheory.specs.Inputs.{parameters}
-use Rattle.uvtheory.proofs.Loops.{row_of, column_of, pair_within, square_le, Filled, one_more, mirror, Bounds, square_fits}
+use Rattle.uvtheory.proofs.Loops.{Filled}
 use Rattle.uvtheory.proofs.parameters.combine.Given as goal
 
 abbrev pub invariant-loop-k : goal.invariant-loop-k

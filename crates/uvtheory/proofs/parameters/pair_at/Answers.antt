@@ -1,4 +1,4 @@
-use Rattle.std.proofs.Common.{◌≡◌, refl, arith, rules}
+use Rattle.std.proofs.Common.{◌≡◌, refl, arith}
 use Rattle.uvtheory.proofs.Combined.{pair_itself, pair_flip}
 use Rattle.uvtheory.proofs.parameters.pair_at.Goals as goal
 

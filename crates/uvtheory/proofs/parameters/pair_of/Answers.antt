@@ -1,4 +1,3 @@
-use Rattle.std.proofs.Common.{rules}
 use Rattle.uvtheory.proofs.Combined.{below}
 use Rattle.uvtheory.proofs.parameters.pair_of.Goals as goal
 

@@ -1,4 +1,4 @@
-use Rattle.std.proofs.Common.{refl, arith, rules}
+use Rattle.std.proofs.Common.{refl, arith}
 use Rattle.uvtheory.proofs.Place.{place_within}
 use Rattle.uvtheory.proofs.parameters.place.Goals as goal
 

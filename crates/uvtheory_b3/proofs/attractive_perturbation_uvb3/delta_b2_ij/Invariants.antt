@@ -1,13 +1,11 @@
 -- The loop's invariant: the first k pairs stand in their places.
-use Prim.Native.Nat.{ℕ, ◌≤◌, ◌<◌, ◌-◌, ◌*◌}
-use mathlib.Core.Path.{refl, ◌∙◌}
+use Prim.Native.Nat.{ℕ, ◌≤◌, ◌-◌, ◌*◌}
 use mathlib.Core.List.{List}
-use native.Mathlib.Omega.{arith}
 use lib.Ieee.{Float, nan}
 use Rattle.arithmetic.specs.Doubles.{guarded}
 use Rattle.uvtheory.specs.Rows.{matrix}
 use Rattle.uvtheory.specs.Wca.AttractivePerturbationUvb3 as F
-use Rattle.uvtheory.proofs.Loops.{at_pair, pair_within, square_le, Filled, one_more, mirror, Bounds, square_fits}
+use Rattle.uvtheory.proofs.Loops.{Filled}
 use Rattle.uvtheory_b3.proofs.attractive_perturbation_uvb3.delta_b2_ij.Given as goal
 
 abbrev pub worked : ℕ → Float → List Float → List Float → List Float → List Float → ℕ → ℕ → Float

@@ -1,7 +1,6 @@
 -- The tests tell the two cases.
 use mathlib.Core.Path.{◌≡◌, sym, ◌∙◌, subst}
 use mathlib.Core.Bool.{true, false, cond}
-use borrow.Author.Rules.{rules}
 use lib.Dec.{T}
 use lib.Ieee.{Float, nan, lt, of_bits}
 use lib.Ieee.Scale.{finite}

@@ -1,10 +1,7 @@
-use Prim.Native.Nat.{suc, ◌-◌, ◌≤◌}
 use mathlib.Core.Path.{◌≡◌, refl}
 use native.Mathlib.Omega.{arith}
 use native.Mathlib.Numerals.{add-one}
-use borrow.Author.Rules.{rules}
 use Rattle.arithmetic.specs.Arithmetic.{power_by}
-use Rattle.arithmetic.specs.Doubles.{guarded}
 use Rattle.uvtheory.specs.Wca.AttractivePerturbationUvb3 as F
 use Rattle.uvtheory_b3.proofs.attractive_perturbation_uvb3.sum_beta.Goals as goal
 

@@ -1,15 +1,9 @@
-use Prim.Native.Nat.{ℕ, ◌≤◌, ◌-◌}
-use mathlib.Core.Path.{◌≡◌, refl}
-use mathlib.Core.List.{List}
+use mathlib.Core.Path.{refl}
 use native.Mathlib.Omega.{arith}
-use lib.ListN.{length, length-set}
-use lib.Ieee.{Float, nan}
-use Rattle.arithmetic.specs.Doubles.{guarded}
-use Rattle.uvtheory.specs.Literals as N
-use Rattle.uvtheory.specs.Rows.{row, Row}
-use Rattle.uvtheory.specs.Parameters as P
+use lib.ListN.{length-set}
+use lib.Ieee.{nan}
 use Rattle.uvtheory.specs.Bh.HardSphere as F
-use Rattle.uvtheory.proofs.Loops.{row_set, InRow, in_row}
+use Rattle.uvtheory.proofs.Loops.{row_set, in_row}
 use Rattle.uvtheory_bh.proofs.hard_sphere.diameter_bh.Goals as goal
 
 pub loop-i-init : goal.loop-i-init

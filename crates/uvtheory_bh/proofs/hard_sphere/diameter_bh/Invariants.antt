@@ -1,16 +1,14 @@
 -- The loop's invariant: the first i diameters stand in their places.
 use Prim.Native.Nat.{ℕ, ◌≤◌, ◌-◌}
-use mathlib.Core.Path.{◌≡◌, refl}
+use mathlib.Core.Path.{◌≡◌}
 use mathlib.Core.List.{List}
-use native.Mathlib.Omega.{arith}
-use lib.ListN.{length, length-set}
-use lib.Ieee.{Float, nan}
+use lib.ListN.{length}
+use lib.Ieee.{Float}
 use Rattle.arithmetic.specs.Doubles.{guarded}
 use Rattle.uvtheory.specs.Literals as N
 use Rattle.uvtheory.specs.Rows.{row, Row}
 use Rattle.uvtheory.specs.Parameters as P
 use Rattle.uvtheory.specs.Bh.HardSphere as F
-use Rattle.uvtheory.proofs.Loops.{row_set, InRow, in_row}
 use Rattle.uvtheory_bh.proofs.hard_sphere.diameter_bh.Given as goal
 
 abbrev pub diameter : Float → List Float → List Float → List Float → ℕ → Float

@@ -1,5 +1,4 @@
 use mathlib.Core.Path.{refl}
-use borrow.Author.Rules.{rules}
 use Rattle.uvtheory.specs.Bh.HardSphere as F
 use Rattle.arithmetic.specs.Arithmetic.{power_by}
 use Rattle.uvtheory_bh.proofs.hard_sphere.diameter_of.Goals as goal

@@ -1,11 +1,8 @@
 use Prim.Native.Nat.{◌≤◌, ◌-◌, ◌*◌, ◌/◌, ◌%◌}
-use mathlib.Core.Path.{◌≡◌, refl}
-use native.Mathlib.Omega.{arith}
-use Rattle.arithmetic.specs.Arithmetic.{sum_by}
+use mathlib.Core.Path.{◌≡◌}
 use Rattle.arithmetic.specs.Doubles.{guarded}
 use Rattle.uvtheory.specs.Rows.{row, matrix}
 use Rattle.uvtheory.specs.Bh.ReferencePerturbation as F
-use Rattle.uvtheory.proofs.Loops.{sum_step, at_pair, Bounds, pair_within, square_fits}
 use Rattle.uvtheory_bh.proofs.reference_perturbation.pair_sum.Given as goal
 
 abbrev pub invariant-loop-k : goal.invariant-loop-k

@@ -1,5 +1,4 @@
 use mathlib.Core.Path.{refl}
-use borrow.Author.Rules.{rules}
 use Rattle.uvtheory.specs.Wca.AttractivePerturbation as F
 use Rattle.arithmetic.specs.Arithmetic.{power_by}
 use Rattle.uvtheory_wca.proofs.attractive_perturbation.correlation_quotient.Goals as goal

@@ -1,13 +1,8 @@
-use Prim.Native.Nat.{ℕ, ◌≤◌, ◌<◌, ◌-◌, ◌*◌}
+use Prim.Native.Nat.{◌<◌, ◌*◌}
 use mathlib.Core.Path.{refl, ◌∙◌}
-use mathlib.Core.List.{List}
 use native.Mathlib.Omega.{arith}
-use lib.Ieee.{Float, nan}
-use Rattle.arithmetic.specs.Doubles.{guarded}
-use Rattle.uvtheory.specs.Rows.{matrix}
-use Rattle.uvtheory.specs.Parameters.{mie_prefactor}
-use Rattle.uvtheory.specs.Wca.AttractivePerturbation as F
-use Rattle.uvtheory.proofs.Loops.{at_pair, pair_within, square_le, Filled, one_more, mirror, Bounds, square_fits}
+use lib.Ieee.{nan}
+use Rattle.uvtheory.proofs.Loops.{at_pair, pair_within, square_le, one_more, mirror, square_fits}
 use Rattle.uvtheory_wca.proofs.attractive_perturbation.delta_b2_ij.Invariants.{worked}
 use Rattle.uvtheory_wca.proofs.attractive_perturbation.delta_b2_ij.Goals as goal
 

@@ -1,5 +1,4 @@
 use mathlib.Core.Path.{refl}
-use borrow.Author.Rules.{rules}
 use Rattle.uvtheory.specs.Wca.HardSphere as F
 use Rattle.arithmetic.specs.Arithmetic.{power_by}
 use Rattle.uvtheory_wca.proofs.hard_sphere.coefficient_q.Goals as goal

@@ -1,13 +1,9 @@
-use Prim.Native.Nat.{ℕ, ◌≤◌, ◌-◌}
-use mathlib.Core.Path.{◌≡◌, refl}
-use mathlib.Core.List.{List}
+use mathlib.Core.Path.{refl}
 use native.Mathlib.Omega.{arith}
-use lib.ListN.{length, length-set}
-use lib.Ieee.{Float, nan}
-use Rattle.arithmetic.specs.Doubles.{guarded}
-use Rattle.uvtheory.specs.Rows.{row, Row}
+use lib.ListN.{length-set}
+use lib.Ieee.{nan}
 use Rattle.uvtheory.specs.Wca.HardSphere as F
-use Rattle.uvtheory.proofs.Loops.{row_set, InRow, in_row}
+use Rattle.uvtheory.proofs.Loops.{row_set, in_row}
 use Rattle.uvtheory_wca.proofs.hard_sphere.component_lengths.Goals as goal
 
 pub loop-i-init : goal.loop-i-init

@@ -1,14 +1,12 @@
 -- The loop's invariant: the first i values of each row stand in their places.
 use Prim.Native.Nat.{ℕ, ◌≤◌, ◌-◌}
-use mathlib.Core.Path.{◌≡◌, refl}
+use mathlib.Core.Path.{◌≡◌}
 use mathlib.Core.List.{List}
-use native.Mathlib.Omega.{arith}
-use lib.ListN.{length, length-set}
-use lib.Ieee.{Float, nan}
+use lib.ListN.{length}
+use lib.Ieee.{Float}
 use Rattle.arithmetic.specs.Doubles.{guarded}
 use Rattle.uvtheory.specs.Rows.{row, Row}
 use Rattle.uvtheory.specs.Wca.HardSphere as F
-use Rattle.uvtheory.proofs.Loops.{row_set, InRow, in_row}
 use Rattle.uvtheory_wca.proofs.hard_sphere.component_lengths.Given as goal
 
 module _ (t : Float) (rep att sigma epsilon_k : List Float) where

@@ -1,5 +1,4 @@
 use mathlib.Core.Path.{refl}
-use borrow.Author.Rules.{rules}
 use Rattle.uvtheory.specs.Wca.HardSphere as F
 use Rattle.uvtheory_wca.proofs.hard_sphere.polynomial_q.Goals as goal
 

@@ -1,12 +1,9 @@
-use Prim.Native.Nat.{◌≤◌, ◌-◌, ◌*◌, ◌/◌, ◌%◌}
+use Prim.Native.Nat.{◌*◌}
 use mathlib.Core.Path.{◌≡◌, refl}
 use native.Mathlib.Omega.{arith}
 use Rattle.arithmetic.specs.Arithmetic.{sum_by}
 use Rattle.arithmetic.specs.Doubles.{guarded}
-use Rattle.uvtheory.specs.Tables.{table}
-use Rattle.uvtheory.specs.Rows.{row, matrix}
-use Rattle.uvtheory.specs.Wca.ReferencePerturbation as F
-use Rattle.uvtheory.proofs.Loops.{sum_step, at_pair, Bounds, pair_within, square_fits}
+use Rattle.uvtheory.proofs.Loops.{sum_step, at_pair, pair_within, square_fits}
 use Rattle.uvtheory_wca.proofs.reference_perturbation.pair_sum.Goals as goal
 
 pub loop-k-init : goal.loop-k-init

@@ -1,2 +1,0 @@
--- Numbers past the last row of a table.
-pub mod Past
