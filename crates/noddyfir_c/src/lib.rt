@@ -1,31 +1,32 @@
 // The calls for C and other languages, by names that collide with no other library's. A slice is passed as a pointer and a length.
+#![tactic(auto)]
+
 ghost use Rattle.std.specs.Prelude.{◌≡◌, ◌≤◌, length};
 ghost use Rattle.noddyfir.specs.Call.{call_buffer, call_code, code_to, ends_answer, energies_answer, slopes_answer};
-ghost use Rattle.calls.specs.declared.kinds.Kind.TheVariants as Kinds;
 ghost use Rattle.noddyfir.specs.Run.{run_of};
+ghost use Rattle.calls.specs.declared.kinds.Kind.TheVariants as Kinds;
 
-use crate::call::{ends, energies, slopes};
-use crate::run::{Run, run_ends, run_energies, run_slopes};
+use noddyfir::run::Run;
 
 #[unsafe(no_mangle)]
 pub extern "C" fn noddyfir_energies(record: &[u8], answer: &mut [u8]) -> u8
     ensures { (result ≡ call_code 28 (code_to Kinds.Energies «record».now) answer.old) × (answer.new ≡ call_buffer 28 (energies_answer «record».now) answer.old) }
 {
-    energies(record, answer)
+    noddyfir::energies(record, answer)
 }
 
 #[unsafe(no_mangle)]
 pub extern "C" fn noddyfir_ends(record: &[u8], answer: &mut [u8]) -> u8
     ensures { (result ≡ call_code 52 (code_to Kinds.Ends «record».now) answer.old) × (answer.new ≡ call_buffer 52 (ends_answer «record».now) answer.old) }
 {
-    ends(record, answer)
+    noddyfir::ends(record, answer)
 }
 
 #[unsafe(no_mangle)]
 pub extern "C" fn noddyfir_slopes(record: &[u8], answer: &mut [u8]) -> u8
     ensures { (result ≡ call_code 52 (code_to Kinds.Slopes «record».now) answer.old) × (answer.new ≡ call_buffer 52 (slopes_answer «record».now) answer.old) }
 {
-    slopes(record, answer)
+    noddyfir::slopes(record, answer)
 }
 
 #[unsafe(no_mangle)]
@@ -33,7 +34,7 @@ pub extern "C" fn noddyfir_run_energies(records: &[u8], answers: &mut [u8]) -> R
     ensures value { (result ≡ (run_of 28 energies_answer records.now answers.old).run) × (answers.new ≡ (run_of 28 energies_answer records.now answers.old).answers) }
     ensures within { (result.read ≤ length records.now) × (result.written ≤ length answers.new) }
 {
-    run_energies(records, answers)
+    noddyfir::run_energies(records, answers)
 }
 
 #[unsafe(no_mangle)]
@@ -41,7 +42,7 @@ pub extern "C" fn noddyfir_run_ends(records: &[u8], answers: &mut [u8]) -> Run
     ensures value { (result ≡ (run_of 52 ends_answer records.now answers.old).run) × (answers.new ≡ (run_of 52 ends_answer records.now answers.old).answers) }
     ensures within { (result.read ≤ length records.now) × (result.written ≤ length answers.new) }
 {
-    run_ends(records, answers)
+    noddyfir::run_ends(records, answers)
 }
 
 #[unsafe(no_mangle)]
@@ -49,5 +50,5 @@ pub extern "C" fn noddyfir_run_slopes(records: &[u8], answers: &mut [u8]) -> Run
     ensures value { (result ≡ (run_of 52 slopes_answer records.now answers.old).run) × (answers.new ≡ (run_of 52 slopes_answer records.now answers.old).answers) }
     ensures within { (result.read ≤ length records.now) × (result.written ≤ length answers.new) }
 {
-    run_slopes(records, answers)
+    noddyfir::run_slopes(records, answers)
 }
