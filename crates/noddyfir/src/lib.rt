@@ -1,6 +1,7 @@
 // The public calls: the energies of one case, and of a run of cases, their ends, and their slopes.
+#![tactic(auto)]
+
 pub mod call;
-pub mod exports;
 mod reader;
 pub mod run;
 

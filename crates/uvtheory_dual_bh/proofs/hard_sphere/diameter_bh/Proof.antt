@@ -46,7 +46,7 @@ returns c = λ i h. c.before.loop.invariant.2 i (omega arith)
 pub diameter_bh_spec : {M : Type 1} → statement M
 diameter_bh_spec =
     tie.close
-    (tie.spec invariant-loop decreases-loop (λ c κs. tt) loop_holds (λ c. (inside c).place.ranges) (λ c. (inside c).place.below) (λ c. (inside c).place.ranges)
-    (λ c. (inside c).place.below) (λ c. (inside c).place.ranges) (λ c. (inside c).place.below) (λ c κs. c.before.before.inv_a76.ensures)
+    (tie.spec invariant-loop decreases-loop (λ c κs. tt) loop_holds (λ c. (inside c).place.guarded_slopes) (λ c. (inside c).place.below) (λ c. (inside c).place.guarded_slopes)
+    (λ c. (inside c).place.below) (λ c. (inside c).place.guarded_slopes) (λ c. (inside c).place.below) (λ c κs. c.before.before.inv_a76.ensures)
     (λ c. (inside c.before).place.wide) (λ c. (inside c.before).place.below) (λ c. (inside c.before).place.next)
     (λ c. (inside c.before).less) loop_again returns)

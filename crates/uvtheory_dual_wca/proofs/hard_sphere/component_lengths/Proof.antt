@@ -64,8 +64,8 @@ returns c = let l = c.before.loop.invariant in record { rm_are = λ i h. l.4 i (
 pub component_lengths_spec : {M : Type 1} → statement M
 component_lengths_spec =
     tie.close
-    (tie.spec invariant-loop decreases-loop loop_holds (λ c. (inside c).place.ranges) (λ c. (inside c).place.below) (λ c. (inside c).place.ranges)
-    (λ c. (inside c).place.below) (λ c. (inside c).place.ranges) (λ c. (inside c).place.below) (λ c. (inside c).place.ranges)
+    (tie.spec invariant-loop decreases-loop loop_holds (λ c. (inside c).place.guarded_slopes) (λ c. (inside c).place.below) (λ c. (inside c).place.guarded_slopes)
+    (λ c. (inside c).place.below) (λ c. (inside c).place.guarded_slopes) (λ c. (inside c).place.below) (λ c. (inside c).place.guarded_slopes)
     (λ c. (inside c).place.below) (λ c κs. tt) (λ c. (inside c.before.before.before.before).place.wide)
     (λ c. (inside c.before.before.before.before).place.below) (λ c. (inside c.before.before.before.before).place.wide)
     (λ c. (inside c.before.before.before.before).place.below) (λ c. (inside c.before.before.before.before).place.wide)

@@ -1,9 +1,0 @@
-use borrow.Author.Rules.{rules}
-use Rattle.noddyfir.proofs.exports.noddyfir_run_ends.Statement.{statement}
-use Rattle.noddyfir.proofs.exports.noddyfir_run_ends.Tie as tie
-
-returns : tie.Need-returns
-returns c = c.before.before.run_ends.ensures
-
-pub noddyfir_run_ends_spec : {M : Type 1} → statement M
-noddyfir_run_ends_spec = tie.close (tie.spec (λ c κs. search rules) (λ c. search rules) returns)
