@@ -1,4 +1,4 @@
-//! Tells cargo where `rt staticlib noddyfir` wrote the archive.
+//! Tells cargo where `tools/archive` wrote the archive.
 
 use std::env;
 use std::path::PathBuf;
