@@ -14,7 +14,7 @@ use operations::basic::is_finite;
 use uvtheory::contributions::Contributions;
 
 // What a call answers with: the three energies, their ends, or the energies with their slopes.
-#[derive(Drop)]
+#[derive(Clone, Copy)]
 pub enum Kind {
     Energies,
     Ends,
