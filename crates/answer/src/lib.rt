@@ -10,7 +10,7 @@ use dual::basic::Dual;
 use range::basic::Range;
 
 // The answer of a case: what a kind of call gives of hard sphere, reference and attractive, in this order, or a number of refusal.
-#[derive(Drop)]
+#[derive(Clone, Copy)]
 pub enum Answer {
     Energies(f64, f64, f64),
     Ends(Range, Range, Range),

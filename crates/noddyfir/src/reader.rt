@@ -5,14 +5,14 @@ ghost use Rattle.noddyfir.specs.Run.{next_at};
 
 use big_endian::big_endian2;
 
-#[derive(Drop)]
+#[derive(Clone, Copy)]
 pub struct Reader<'a> {
     src: &'a [u8],
     at: usize,
 }
 
 // What follows in the input: nothing, a broken tail, or a whole record of so many bytes.
-#[derive(Drop)]
+#[derive(Clone, Copy)]
 pub enum Next {
     UsedUp,
     Broken,

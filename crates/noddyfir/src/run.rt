@@ -9,7 +9,7 @@ use calls::kinds::Kind;
 
 // Records done, bytes read, bytes written, and why the run stopped: 0 input used up, 2 broken tail, 1 no room for an answer.
 #[repr(C)]
-#[derive(Drop)]
+#[derive(Clone, Copy)]
 pub struct Run {
     pub records: usize,
     pub read: usize,

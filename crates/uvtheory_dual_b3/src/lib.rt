@@ -1,5 +1,7 @@
 // Written by tools/copies from crates/uvtheory_range_b3/src/lib.rt.
 // uvtheory/eos/wca on values with slopes: the contributions of the B3 form.
+#![tactic(auto)]
+
 pub mod attractive_perturbation_uvb3;
 
 ghost use Rattle.std.specs.Prelude.{◌≤◌};

@@ -1,5 +1,7 @@
 // Written by tools/copies from crates/uvtheory_range_bh/src/lib.rt.
 // uvtheory/eos/bh on values with slopes: the contributions by Barker and Henderson.
+#![tactic(auto)]
+
 pub mod attractive_perturbation;
 pub mod hard_sphere;
 pub mod reference_perturbation;

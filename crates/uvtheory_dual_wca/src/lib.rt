@@ -1,5 +1,7 @@
 // Written by tools/copies from crates/uvtheory_range_wca/src/lib.rt.
 // uvtheory/eos/wca on values with slopes: the contributions by Weeks, Chandler and Andersen.
+#![tactic(auto)]
+
 pub mod attractive_perturbation;
 pub mod hard_sphere;
 pub mod reference_perturbation;

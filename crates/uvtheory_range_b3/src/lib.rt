@@ -1,4 +1,6 @@
 // uvtheory/eos/wca on ranges: the contributions of the B3 form.
+#![tactic(auto)]
+
 pub mod attractive_perturbation_uvb3;
 
 ghost use Rattle.std.specs.Prelude.{◌≤◌};

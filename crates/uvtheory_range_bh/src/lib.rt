@@ -1,4 +1,6 @@
 // uvtheory/eos/bh on ranges: the contributions by Barker and Henderson.
+#![tactic(auto)]
+
 pub mod attractive_perturbation;
 pub mod hard_sphere;
 pub mod reference_perturbation;

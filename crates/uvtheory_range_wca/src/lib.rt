@@ -1,4 +1,6 @@
 // uvtheory/eos/wca on ranges: the contributions by Weeks, Chandler and Andersen.
+#![tactic(auto)]
+
 pub mod attractive_perturbation;
 pub mod hard_sphere;
 pub mod reference_perturbation;

@@ -22,11 +22,11 @@ contributions_spec =
     tie.close
     (tie.spec
     (λ c. search rules)
-    (λ c κs. c.before.before.requires)
+    (λ c κs. c.before.before.pre)
     (λ c. search rules)
-    (λ c κs. c.before.before.requires)
+    (λ c κs. c.before.before.pre)
     (λ c. search rules)
-    (λ c κs. c.before.before.requires)
+    (λ c κs. c.before.before.pre)
     returns
     returns_2
     returns_3)

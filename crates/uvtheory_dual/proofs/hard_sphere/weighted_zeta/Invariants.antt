@@ -1,0 +1,12 @@
+-- Written by tools/copies from crates/uvtheory_range/proofs/hard_sphere/weighted_zeta/Invariants.antt.
+use Prim.Native.Nat.{◌≤◌, ◌-◌}
+use mathlib.Core.Path.{◌≡◌}
+use Rattle.dual.specs.Rules.{guarded_slopes}
+use Rattle.uvtheory_dual.specs.Rows.{row}
+use Rattle.uvtheory_dual.proofs.hard_sphere.weighted_zeta.Given as goal
+
+abbrev pub invariant-loop-i : goal.invariant-loop-i
+invariant-loop-i l = (l.i ≤ l.n) × (l.z ≡ guarded_slopes.sum l.i (λ j. guarded_slopes.mul (guarded_slopes.mul (row l.weights j) (guarded_slopes.powi (row l.diameter j) l.k)) (row l.unit j)))
+
+abbrev pub decreases-loop-i : goal.decreases-loop-i
+decreases-loop-i l = l.n - l.i

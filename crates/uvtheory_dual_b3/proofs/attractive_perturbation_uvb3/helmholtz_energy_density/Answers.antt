@@ -1,0 +1,73 @@
+-- Written by tools/copies from crates/uvtheory_range_b3/proofs/attractive_perturbation_uvb3/helmholtz_energy_density/Answers.antt.
+use mathlib.Core.Path.{◌∙◌}
+use Prim.Native.Nat.{ℕ, ◌/◌, ◌%◌}
+use Rattle.dual.specs.declared.basic.Dual.{Dual}
+use Rattle.dual.specs.Rules.{guarded_slopes}
+use Rattle.uvtheory.specs.Inputs.{parameters}
+use Rattle.uvtheory.specs.Wca.HardSphere.{rm_of, diameter_wca, dimensionless_diameter_q_wca}
+use Rattle.uvtheory.specs.Wca.AttractivePerturbationUvb3 as F
+use Rattle.uvtheory.proofs.Loops.{row_of, column_of}
+use Rattle.uvtheory.proofs.Arrays.{matrix_at}
+use Rattle.uvtheory_dual.specs.Rows.{missing, row}
+use Rattle.uvtheory_dual.proofs.Combined.{rep_symmetric, epsilon_symmetric}
+use Rattle.uvtheory_dual_wca.proofs.Lengths.{rm_symmetric, q_symmetric}
+use Rattle.uvtheory_dual.proofs.Arrays.{rep_at, epsilon_at, one_fluid_held, virial_sum_held}
+use Rattle.uvtheory_dual_b3.proofs.attractive_perturbation_uvb3.helmholtz_energy_density.Goals as goal
+
+pub returns : goal.returns
+unfolding F.helmholtz_energy_density F.residual_virial_coefficient F.residual_third_virial_coefficient
+returns c =
+    let m = c.args.m in
+    let s = c.args.s in
+    let a = c.args.c in
+    let n = m.n in
+    let p = parameters guarded_slopes m in
+    let held = c.requires.n_bound.1 in
+    let lengths = c.requires.n_bound.2 in
+    let x = row s.molefracs in
+    let temperature = s.temperature in
+    let d = diameter_wca guarded_slopes p temperature in
+    let rm : ℕ → ℕ → Dual = λ i j. rm_of guarded_slopes (p.rep_ij i j) (p.att_ij i j) in
+    let q : ℕ → ℕ → Dual = λ i j. dimensionless_diameter_q_wca guarded_slopes (guarded_slopes.div temperature (p.eps_k_ij i j)) (p.rep_ij i j) (p.att_ij i j) in
+    let one_fluid = one_fluid_held m a held x c.args.d d c.requires.n_bound.3 in
+    let second = virial_sum_held m a held x 3 c.delta_b2_ij-b2.result (F.delta_b2_ij guarded_slopes p temperature)
+    (λ k l. c.delta_b2_ij-b2.ensures k l ∙ rw (matrix_at missing n c.args.l.q q lengths.q_are k l, matrix_at missing n c.args.l.rm rm lengths.rm_are k l, rep_at m a held k l, epsilon_at m a held k l)) in
+    let third = virial_sum_held m a held x 6 c.delta_b3_ij-b3.result (F.delta_b3_ij guarded_slopes p temperature d)
+    (λ k l. c.delta_b3_ij-b3.ensures k l ∙ rw (
+      matrix_at missing n c.args.l.q q lengths.q_are k l,
+      matrix_at missing n c.args.l.rm rm lengths.rm_are k l,
+      rep_at m a held k l,
+      epsilon_at m a held k l,
+      c.requires.n_bound.3 (k / n) (row_of n k l),
+      c.requires.n_bound.3 (k % n) (column_of n k l),
+    )) in
+    c.energy.ensures ∙ rw (
+      c.one_fluid_properties-o.ensures,
+      c.mul-rho.ensures,
+      c.mean_cube.ensures,
+      c.constants-sigma.ensures,
+      one_fluid,
+      c.virial_sum-b2bar.ensures,
+      second,
+      c.virial_sum-b3bar.ensures,
+      third,
+      c.requires.density_value,
+    )
+
+pub one_fluid_properties-o-requires : goal.one_fluid_properties-o-requires
+one_fluid_properties-o-requires c = c.requires.n_bound.0
+
+pub delta_b2_ij-b2-requires : goal.delta_b2_ij-b2-requires
+delta_b2_ij-b2-requires c = let h = c.requires.n_bound.1 in let l = c.requires.n_bound.2 in (c.requires.n_bound.0, rep_symmetric h, epsilon_symmetric h, q_symmetric l, rm_symmetric l)
+
+pub virial_sum-b2bar-requires : goal.virial_sum-b2bar-requires
+virial_sum-b2bar-requires c = c.requires.n_bound.0
+
+pub delta_b3_ij-b3-requires : goal.delta_b3_ij-b3-requires
+delta_b3_ij-b3-requires c = c.requires.n_bound.0
+
+pub virial_sum-b3bar-requires : goal.virial_sum-b3bar-requires
+virial_sum-b3bar-requires c = c.requires.n_bound.0
+
+pub mean_cube-requires : goal.mean_cube-requires
+mean_cube-requires c = c.requires.n_bound.0

@@ -1,0 +1,21 @@
+-- The loop's invariant: the first k pairs stand in their places.
+use Prim.Native.Nat.{ℕ, ◌≤◌, ◌-◌, ◌*◌}
+use mathlib.Core.List.{List}
+use Rattle.range.specs.declared.basic.Range.{Range}
+use Rattle.range.specs.Rules.{ranges}
+use Rattle.uvtheory.specs.Parameters.{mie_prefactor}
+use Rattle.uvtheory.specs.Wca.AttractivePerturbation as F
+use Rattle.uvtheory.proofs.Loops.{Filled}
+use Rattle.uvtheory_range.specs.Rows.{missing, matrix}
+use Rattle.uvtheory_range_wca.proofs.attractive_perturbation.delta_b2_ij.Given as goal
+
+abbrev pub worked : ℕ → Range → List Range → List Range → List Range → List Range → List Range → ℕ → ℕ → Range
+worked n t rep_ij att_ij eps_k_ij q rm i j =
+    F.delta_b2_of ranges (ranges.div t (matrix n eps_k_ij i j)) (matrix n rep_ij i j) (matrix n att_ij i j) (matrix n q i j)
+    (mie_prefactor ranges (matrix n rep_ij i j) (matrix n att_ij i j)) (matrix n rm i j)
+
+abbrev pub invariant-loop-k : goal.invariant-loop-k
+invariant-loop-k l = (l.k ≤ l.n * l.n) × Filled missing l.n l.k l.b2 (worked l.n l.t l.rep_ij l.att_ij l.eps_k_ij l.q l.rm)
+
+abbrev pub decreases-loop-k : goal.decreases-loop-k
+decreases-loop-k l = l.n * l.n - l.k
