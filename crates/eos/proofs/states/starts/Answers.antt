@@ -9,23 +9,15 @@ use Rattle.dual.specs.Rules.{plain, start}
 use Rattle.uvtheory.specs.Rows.{row}
 use Rattle.uvtheory.proofs.Eight.{past_end, eight}
 use Rattle.uvtheory_dual.specs.Rows.{missing}
-use Rattle.eos.proofs.states.starts.Statement.{statement}
-use Rattle.eos.proofs.states.starts.Tie as tie
+use Rattle.eos.proofs.states.starts.Goals as goal
 
-returns : tie.Need-returns
+pub returns : goal.returns
 unfolding start
 returns c =
-    let d = c.args.t1 in
-    let x = c.args.t2 in
+    let d = c.args.d in
+    let x = c.args.x in
     let l : length d ≡ 8 = search (rules, c.well_formed) in
     let k : length x ≡ 8 = search (rules, c.well_formed) in
     let densities : ℕ → Dual = λ i. start plain (row d i) (row x i) in
     let past : (i : ℕ) → 8 ≤ i → missing ≡ densities i = λ i h. sym (ap₂ (start plain) (past_end nan d l i h) (past_end nan x k i h)) in
     eight missing densities past refl refl refl refl refl refl refl refl
-
-pub starts_spec : {M : Type 1} → statement M
-starts_spec =
-    tie.close
-    (tie.spec (λ c. search rules) (λ c. search rules) (λ c. search rules) (λ c. search rules) (λ c. search rules) (λ c. search rules)
-    (λ c. search rules) (λ c. search rules) (λ c. search rules) (λ c. search rules) (λ c. search rules) (λ c. search rules) (λ c. search rules)
-    (λ c. search rules) (λ c. search rules) (λ c. search rules) returns)
