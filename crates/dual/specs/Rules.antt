@@ -1,6 +1,6 @@
 -- The rules of M-100: "every double becomes a value with a slope". `slopes` is the definition: its values are those of `doubles`, and a slope that is not finite,
--- or whose value failed, is NaN from there on. `guardedSlopes` is what the code works, with no test but where an operation could lose what is not finite.
--- proofs/Agreement.antt: for every formula, one test at the end of `guardedSlopes` gives `slopes`.
+-- or whose value failed, is NaN from there on. `guarded_slopes` is what the code works, with no test but where an operation could lose what is not finite.
+-- proofs/Agreement.antt: for every formula, one test at the end of `guarded_slopes` gives `slopes`.
 use Rattle.std.specs.Prelude.{Bool, cond, ◌&&◌, Float}
 use Rattle.std.specs.Float.{nan, binary64}
 use Rattle.std.specs.Float.Ieee.{lt}
@@ -74,35 +74,35 @@ choose l v a b = dual (tested l v.value a.value b.value) (tested l v.value a.slo
 unfoldable pub given : Dual → Dual → Dual
 given v x = dual x.value (where_finite v.value (where_finite v.slope x.slope))
 
--- ---- the slopes of document 02: a and b are values, a' and b' their slopes
-infixl 60 ◌+◌
-infixl 60 ◌-◌
-infixl 70 ◌*◌
-infixl 70 ◌/◌
-abbrev ◌+◌ : Float → Float → Float
-◌+◌ = Ieee.add binary64
+-- ---- the slopes of document 02: a and b are values, a' and b' their slopes, and each operation on doubles rounds once
+infixl 60 ◌+ᵈ◌
+infixl 60 ◌-ᵈ◌
+infixl 70 ◌*ᵈ◌
+infixl 70 ◌/ᵈ◌
+abbrev ◌+ᵈ◌ : Float → Float → Float
+◌+ᵈ◌ = Ieee.add binary64
 
-abbrev ◌-◌ : Float → Float → Float
-◌-◌ = Ieee.sub binary64
+abbrev ◌-ᵈ◌ : Float → Float → Float
+◌-ᵈ◌ = Ieee.sub binary64
 
-abbrev ◌*◌ : Float → Float → Float
-◌*◌ = Ieee.mul binary64
+abbrev ◌*ᵈ◌ : Float → Float → Float
+◌*ᵈ◌ = Ieee.mul binary64
 
-abbrev ◌/◌ : Float → Float → Float
-◌/◌ = Ieee.div binary64
+abbrev ◌/ᵈ◌ : Float → Float → Float
+◌/ᵈ◌ = Ieee.div binary64
 
 abbrev pub product_slope : Float → Float → Float → Float → Float
-product_slope a a' b b' = a' * b + a * b'
+product_slope a a' b b' = a' *ᵈ b +ᵈ a *ᵈ b'
 
 abbrev pub quotient_slope : Float → Float → Float → Float → Float
-quotient_slope a a' b b' = (a' * b - a * b') / (b * b)
+quotient_slope a a' b b' = (a' *ᵈ b -ᵈ a *ᵈ b') /ᵈ (b *ᵈ b)
 
 abbrev pub root_slope : Float → Float → Float
-root_slope root a' = a' / (two * root)
+root_slope root a' = a' /ᵈ (two *ᵈ root)
 
 -- below −700 exp is a constant case
 abbrev pub exp_slope : Float → Float → Float → Float
-exp_slope e a a' = cond (lt a minus_seven_hundred) (where_finite a' zero_d) (a' * e)
+exp_slope e a a' = cond (lt a minus_seven_hundred) (where_finite a' zero_d) (a' *ᵈ e)
 
 -- ---- the rules
 module _ (H : Halves) where
@@ -120,10 +120,10 @@ module _ (H : Halves) where
   neg x = made (H.neg x.value) (Ieee.neg x.slope)
 
   unfoldable pub add : Dual → Dual → Dual
-  add x y = made (H.add x.value y.value) (x.slope + y.slope)
+  add x y = made (H.add x.value y.value) (x.slope +ᵈ y.slope)
 
   unfoldable pub sub : Dual → Dual → Dual
-  sub x y = made (H.sub x.value y.value) (x.slope - y.slope)
+  sub x y = made (H.sub x.value y.value) (x.slope -ᵈ y.slope)
 
   unfoldable pub mul : Dual → Dual → Dual
   mul x y = made (H.mul x.value y.value) (product_slope x.value x.slope y.value y.slope)
@@ -135,10 +135,10 @@ module _ (H : Halves) where
   sqrt x = made (H.sqrt x.value) (root_slope (H.sqrt x.value) x.slope)
 
   unfoldable pub ln : Dual → Dual
-  ln x = made (H.ln x.value) (x.slope / x.value)
+  ln x = made (H.ln x.value) (x.slope /ᵈ x.value)
 
   unfoldable pub ln1p : Dual → Dual
-  ln1p x = made (H.ln1p x.value) (x.slope / (one + x.value))
+  ln1p x = made (H.ln1p x.value) (x.slope /ᵈ (one +ᵈ x.value))
 
   unfoldable pub exp : Dual → Dual
   exp x = made (H.exp x.value) (exp_slope (H.exp x.value) x.value x.slope)
