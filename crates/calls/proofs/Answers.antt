@@ -8,13 +8,11 @@ use borrow.Author.Tests.{eq-eqb, ne_eqb}
 use lib.Ieee.{Float, nan, inf, fin}
 use lib.Ieee.Scale.{finite}
 use Rattle.arithmetic.specs.Doubles.{checked, guarded}
-use Rattle.range.specs.declared.basic.Range.{Range}
 use Rattle.range.specs.Rules as Range
 use Rattle.dual.specs.declared.basic.Dual.{Dual}
 use Rattle.dual.specs.Rules.{plain, guarded_slopes}
 use Rattle.dual.specs.Rules as Dual
 use Rattle.dual.proofs.Agreement.{Same, ok_kept, in_code}
-use Rattle.uvtheory.specs.Contributions.{Contributions}
 use Rattle.uvtheory.specs.Inputs as Inputs
 use Rattle.uvtheory.specs.declared.contributions.Contributions.{Contributions as Held}
 use Rattle.uvtheory.specs.Held.{ContributionsOf}

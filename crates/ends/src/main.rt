@@ -1,6 +1,10 @@
 // Answers the case records of standard input by their ends.
-use calls::kinds::Kind;
+#![tactic(auto)]
 
-fn main() {
-    program::answer_input(Kind::Ends);
+use calls::kinds::Kind;
+use std::io;
+
+fn main(rt: HostRuntime) -> io::Result<()> {
+    program::answer_input(&rt, Kind::Ends)?;
+    Ok(())
 }

@@ -1,6 +1,10 @@
 // Answers the case records of standard input by their energies.
-use calls::kinds::Kind;
+#![tactic(auto)]
 
-fn main() {
-    program::answer_input(Kind::Energies);
+use calls::kinds::Kind;
+use std::io;
+
+fn main(rt: HostRuntime) -> io::Result<()> {
+    program::answer_input(&rt, Kind::Energies)?;
+    Ok(())
 }
