@@ -125,7 +125,7 @@ plain_strict = record {
   step = λ {a} {x} {f} {g} s p h. same (rw (← p.is) (of_step s a f g (λ k. (h k).is)));
 }
 
--- a recipe worked in `agreedBasic` is the proof that its plain value, checked, is its strict value ..
+-- a recipe worked in `agreed_basic` is the proof that its plain value, checked, is its strict value ..
 abbrev pub agreed_basic : Basic
 agreed_basic = basic_both plain strict Same plain_strict
 

@@ -56,7 +56,7 @@ whole_itself {b} k f h =
     subst (λ (x : Float). Approximation null b x (whole k)) (sym (checked_is (of_int binary64 k) w.0)) record { number = w.0; close = same_close (≼_refl null) (w.1, w.2); bound = h }
 
 -- ---- Operations. The double r is q rounded; q is at most e off Q, and |Q| ≤ b. Where e + b is below `limit binary64 k`, which is 2 ^ (k - 1021),
--- the rounding error is at most `halfPlace binary64 k`, which is 2 ^ (k - 1075). Nothing overflows where k is 2044 at most.
+-- the rounding error is at most `half_place binary64 k`, which is 2 ^ (k - 1075). Nothing overflows where k is 2044 at most.
 module _ (k : ℕ) (reach : T (leb (suc (53 + k)) 2098)) where
   pub operation : {e b q Q : Fraction} (r : Float) → Rounds binary64 r q → Close e q Q → Close b Q null → (e ⊕ b ≺? limit binary64 k) ≡ true → Approximation (half_place binary64 k ⊕ e) b (checked r) Q
   operation {e} {b} {q} {Q} r (z, i) c B l =

@@ -8,7 +8,7 @@ use mathlib.Core.Bool.{false}
 use mathlib.Core.Option.{some}
 use lib.IntN.{ℤ, pos, negsuc, neg_ℤ, suc_ℤ}
 use lib.Dec.{T, ltb, lt→ltb}
-use lib.Ieee.{Float, fin, binary64, of_bits, fits, neg, add, sub, mul, div, round, up, down, to_bits}
+use lib.Ieee.{Float, fin, binary64, of_bits, fits, neg, add, sub, div, round, up, down, to_bits}
 use lib.Ieee.Bits.{is_true}
 use lib.Ieee.Fits.{down_pos, mul-fits}
 use lib.Ieee.Scale.{finite}

@@ -1,6 +1,6 @@
 -- What the loop over the digits of a root keeps, round by round, and what that makes of its last round.
 use mathlib.Core.Path.{◌≡◌, refl, sym, ap, ◌∙◌, subst}
-use Prim.Native.Nat.{ℕ, zero, suc, ◌+◌, ◌-◌, ◌*◌, ◌/◌, ◌%◌, ◌^◌, ◌≤◌, ◌<◌}
+use Prim.Native.Nat.{ℕ, suc, ◌+◌, ◌-◌, ◌*◌, ◌/◌, ◌%◌, ◌^◌, ◌≤◌, ◌<◌}
 use native.Mathlib.Nat.{mul_assoc, mul_right_comm, mul-mul-mul_comm, mul-pos, mul-one, eq_of_mul-eq-mul_right, lt_of_lt_of_le, lt_of_not-le, mul-le-mul, mod-eq_of_lt, pow-suc}
 use native.Mathlib.Numerals.{add-one}
 use native.Mathlib.Omega.{arith}

@@ -63,7 +63,7 @@ between r m f ev p = go (r % 2) refl
     go (suc zero) e = let g = at (2 * h + 1) (omega arith) in record { low = omega (arith, g); high = omega (arith, g) }
     go (suc (suc b)) e = absurd (omega arith)
 
--- ---- what `roundedRoot` hands to `round` for the number m * (p * p) is within 2 * p of 4 * (h + 1) * p
+-- ---- what `rounded_root` hands to `round` for the number m * (p * p) is within 2 * p of 4 * (h + 1) * p
 abbrev doubled : ℕ → ℕ
 doubled n = 2 * root n + cond (eqb (root n * root n) n) 0 1
 
@@ -176,7 +176,7 @@ sqrt_by_value (fin false m e) a p v =
 abbrev pub radicand : ℕ → ℕ → ℕ
 radicand sig exp = sig * 2 ^ (exp % 2) * 2 ^ 54
 
--- in units of 4 ^ -1074, which `roundedRoot` counts in, it is the radicand times a square
+-- in units of 4 ^ -1074, which `rounded_root` counts in, it is the radicand times a square
 pub in_squares : (sig exp : ℕ) → sig * 2 ^ exp * 2 ^ 1022 ≡ radicand sig exp * (2 ^ (exp / 2 + 484) * 2 ^ (exp / 2 + 484))
 in_squares sig exp =
     let o = exp % 2 in

@@ -4,7 +4,7 @@ use Prim.Native.Nat.{ℕ, zero, suc, ◌+◌, ◌-◌, ◌*◌, ◌/◌, ◌%◌
 use native.Mathlib.Nat.{mul_assoc, mul-div_cancel, mul-pos, mul-one, eq_of_mul-eq-mul_right, lt_of_lt_of_le, lt_of_mul-lt-mul_right, eq-or-lt_of_le}
 use native.Mathlib.Omega.{arith}
 use mathlib.Core.Bool.{Bool, true, false, cond, true≢false}
-use mathlib.Core.Logic.{◌⊎◌, inl, inr}
+use mathlib.Core.Logic.{inl, inr}
 use borrow.Author.Tests.{eq-eqb, eqb-true}
 use lib.Pow.{pow-add, pow_pos, pow_mono, shl_lt}
 use lib.Ieee.{Float, nan, inf, fin, binary64, size, of_bits}
@@ -16,7 +16,7 @@ use Rattle.arithmetic.proofs.Significand.{Parts}
 use Rattle.arithmetic.proofs.Squares.{exact_root}
 use Rattle.arithmetic.proofs.RoundedRoot.{root_size, in_fourths_is, radicand, in_squares, shifted_range}
 
--- ---- `leastFrom` is the least
+-- ---- `least_from` is the least
 pub record Least (p : ℕ → Bool) (j k l : ℕ) : Type 0 where
   pub from : j ≤ l
   pub most : l ≤ j + k

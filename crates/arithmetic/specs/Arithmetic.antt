@@ -19,7 +19,7 @@ pub record Arithmetic : Type 1 where
   pub exp : Value → Value
   pub powf : Value → Value → Value
   pub tanh : Value → Value
-  -- `ifBelow v t a b` is a where v < t, else b
+  -- `if_below v t a b` is a where v < t, else b
   pub if_below : Value → Float → Value → Value → Value
   -- f 0 + .. + f (n - 1)
   pub sum : ℕ → (ℕ → Value) → Value

@@ -1,5 +1,5 @@
 -- The theorem on records: whatever the bytes, where the ends call has a result its ends hold.
--- The operations keep what ends enclose (crate range, `certified`), so the formulas of the three perturbations do (crate eos, `as-sent`).
+-- The operations keep what ends enclose (crate range, `certified`), so the formulas of the three perturbations do (crate eos, `as_sent`).
 use Prim.Native.Nat.{ℕ}
 use mathlib.Core.Path.{◌≡◌, refl, sym, subst, ◌∙◌}
 use mathlib.Core.Bool.{Bool, true, false, cond}

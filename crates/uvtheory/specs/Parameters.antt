@@ -4,7 +4,7 @@ use Rattle.arithmetic.specs.Arithmetic.{Arithmetic}
 use Rattle.uvtheory.specs.Literals.{half, one, three, six, seven, minus_two}
 use Rattle.uvtheory.specs.Tables.{CD_BH}
 
--- `UVTheoryParameters`: what is sent of a mixture. Doubles in every arithmetic, since parameters are taken as sent; `k-ij` is read for i below j.
+-- `UVTheoryParameters`: what is sent of a mixture. Doubles in every arithmetic, since parameters are taken as sent; `k_ij` is read for i below j.
 pub record UVTheoryParameters : Type 0 where
   pub n : ℕ
   pub rep : ℕ → Float
