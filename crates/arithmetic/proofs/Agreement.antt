@@ -140,5 +140,5 @@ pub agreement : Kept guarded doubles Same
 agreement = over_kept plain strict Same plain_strict sqrt (λ x. checked (sqrt x)) (λ a x p. same (rw (← p.is) (of_sqrt a)))
 
 -- a formula worked in `agreed` is the proof that its guarded value, checked, is its strict value
-abbrev pub agreed : Arithmetic
+abbrev pub agreed : Arithmetic (Both Same)
 agreed = both guarded doubles Same agreement

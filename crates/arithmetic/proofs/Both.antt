@@ -84,28 +84,27 @@ module _ (A B : Basic) (R : A.Value → B.Value → Type 0) where
     sum_kept (suc n) h = K.add (sum_kept n h) (h n)
 
 -- ---- the operations of the formulas
-module _ (A B : Arithmetic) (R : A.Value → B.Value → Type 0) where
+module _ {X Y : Type 0} (A : Arithmetic X) (B : Arithmetic Y) (R : X → Y → Type 0) where
   pub record Kept : Type 0 where
     pub constant : (k : Float) → R (A.constant k) (B.constant k)
-    pub add : {a b : A.Value} {x y : B.Value} → R a x → R b y → R (A.add a b) (B.add x y)
-    pub neg : {a : A.Value} {x : B.Value} → R a x → R (A.neg a) (B.neg x)
-    pub sub : {a b : A.Value} {x y : B.Value} → R a x → R b y → R (A.sub a b) (B.sub x y)
-    pub mul : {a b : A.Value} {x y : B.Value} → R a x → R b y → R (A.mul a b) (B.mul x y)
-    pub div : {a b : A.Value} {x y : B.Value} → R a x → R b y → R (A.div a b) (B.div x y)
-    pub powi : {a : A.Value} {x : B.Value} (n : ℕ) → R a x → R (A.powi a n) (B.powi x n)
-    pub sqrt : {a : A.Value} {x : B.Value} → R a x → R (A.sqrt a) (B.sqrt x)
-    pub ln : {a : A.Value} {x : B.Value} → R a x → R (A.ln a) (B.ln x)
-    pub ln1p : {a : A.Value} {x : B.Value} → R a x → R (A.ln1p a) (B.ln1p x)
-    pub exp : {a : A.Value} {x : B.Value} → R a x → R (A.exp a) (B.exp x)
-    pub powf : {a b : A.Value} {x y : B.Value} → R a x → R b y → R (A.powf a b) (B.powf x y)
-    pub tanh : {a : A.Value} {x : B.Value} → R a x → R (A.tanh a) (B.tanh x)
-    pub if_below : {a b c : A.Value} {x y z : B.Value} (t : Float) → R a x → R b y → R c z → R (A.if_below a t b c) (B.if_below x t y z)
-    pub sum : {f : ℕ → A.Value} {g : ℕ → B.Value} (n : ℕ) → ((i : ℕ) → R (f i) (g i)) → R (A.sum n f) (B.sum n g)
+    pub add : {a b : X} {x y : Y} → R a x → R b y → R (A.add a b) (B.add x y)
+    pub neg : {a : X} {x : Y} → R a x → R (A.neg a) (B.neg x)
+    pub sub : {a b : X} {x y : Y} → R a x → R b y → R (A.sub a b) (B.sub x y)
+    pub mul : {a b : X} {x y : Y} → R a x → R b y → R (A.mul a b) (B.mul x y)
+    pub div : {a b : X} {x y : Y} → R a x → R b y → R (A.div a b) (B.div x y)
+    pub powi : {a : X} {x : Y} (n : ℕ) → R a x → R (A.powi a n) (B.powi x n)
+    pub sqrt : {a : X} {x : Y} → R a x → R (A.sqrt a) (B.sqrt x)
+    pub ln : {a : X} {x : Y} → R a x → R (A.ln a) (B.ln x)
+    pub ln1p : {a : X} {x : Y} → R a x → R (A.ln1p a) (B.ln1p x)
+    pub exp : {a : X} {x : Y} → R a x → R (A.exp a) (B.exp x)
+    pub powf : {a b : X} {x y : Y} → R a x → R b y → R (A.powf a b) (B.powf x y)
+    pub tanh : {a : X} {x : Y} → R a x → R (A.tanh a) (B.tanh x)
+    pub if_below : {a b c : X} {x y z : Y} (t : Float) → R a x → R b y → R c z → R (A.if_below a t b c) (B.if_below x t y z)
+    pub sum : {f : ℕ → X} {g : ℕ → Y} (n : ℕ) → ((i : ℕ) → R (f i) (g i)) → R (A.sum n f) (B.sum n g)
 
   module _ (K : Kept) where
-    abbrev pub both : Arithmetic
+    abbrev pub both : Arithmetic (Both R)
     both = record {
-      Value = Both R;
       constant = λ k. both_of R (K.constant k);
       add = λ p q. both_of R (K.add p.holds q.holds);
       neg = λ p. both_of R (K.neg p.holds);

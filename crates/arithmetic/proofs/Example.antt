@@ -9,8 +9,8 @@ use Rattle.arithmetic.specs.Sums.{dot, pairs}
 use Rattle.arithmetic.specs.Doubles.{checked, doubles, guarded}
 use Rattle.arithmetic.proofs.Agreement.{agreed}
 
-module _ (A : Arithmetic) where
-  open A use {Value, constant, add as ◌+◌, sub as ◌-◌, mul as ◌*◌, div as ◌/◌, neg as -◌, powi, sqrt, ln, ln1p, exp, powf, tanh, if_below, sum}
+module _ {Value : Type 0} (A : Arithmetic Value) where
+  open A use {constant, add as ◌+◌, sub as ◌-◌, mul as ◌*◌, div as ◌/◌, neg as -◌, powi, sqrt, ln, ln1p, exp, powf, tanh, if_below, sum}
 
   infixl 60 ◌+◌
   infixl 60 ◌-◌

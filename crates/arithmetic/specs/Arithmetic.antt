@@ -1,11 +1,10 @@
--- The operations that every formula is written over, and how the operations of the recipes and a root make them.
+-- The operations that every formula is written over, on the values of a type, and how the operations of the recipes and a root make them.
 use Rattle.std.specs.Prelude.{ℕ, zero, suc, Float}
 use Rattle.arithmetic.specs.Basic.{Basic, below}
 use Rattle.arithmetic.specs.Constants.{zero_d, one}
 use Rattle.arithmetic.specs.Recipes as Recipes
 
-pub record Arithmetic : Type 1 where
-  pub Value : Type 0
+pub record Arithmetic (Value : Type 0) : Type 0 where
   pub constant : Float → Value
   pub add : Value → Value → Value
   pub neg : Value → Value
@@ -37,9 +36,8 @@ module _ {X : Type 0} (unit : X) (times : X → X → X) where
   power_by x (suc zero) = x
   power_by x (suc (suc n)) = times (power_by x (suc n)) x
 
-abbrev pub over : (A : Basic) → (A.Value → A.Value) → Arithmetic
+abbrev pub over : (A : Basic) → (A.Value → A.Value) → Arithmetic A.Value
 over A root = record {
-  Value = A.Value;
   constant = A.constant;
   add = A.add;
   neg = A.neg;

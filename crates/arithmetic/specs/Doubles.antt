@@ -73,8 +73,8 @@ plain = record {
   step = stepped;
 }
 
-abbrev pub doubles : Arithmetic
+abbrev pub doubles : Arithmetic Float
 doubles = over strict (λ x. checked (sqrt x))
 
-abbrev pub guarded : Arithmetic
+abbrev pub guarded : Arithmetic Float
 guarded = over plain sqrt

@@ -3,8 +3,8 @@ use Rattle.std.specs.Prelude.{ℕ, ◌*◌ as ◌×ℕ◌, ◌/◌ as ◌/ℕ◌
 use Rattle.arithmetic.specs.Arithmetic.{Arithmetic}
 use Rattle.arithmetic.specs.Constants.{one}
 
-module _ (A : Arithmetic) where
-  open A use {Value, constant, mul, div, sum}
+module _ {Value : Type 0} (A : Arithmetic Value) where
+  open A use {constant, mul, div, sum}
 
   -- 1 / v
   abbrev pub recip : Value → Value

@@ -157,9 +157,8 @@ module _ (H : Halves) where
       choose (above twenty) v (given v (constant one))
       (choose (below minus_twenty) v (given v (constant minus_one)) (sub (constant one) (div (constant two) (add (exp (mul (constant two) v)) (constant one)))))
 
-  abbrev pub over : Arithmetic
+  abbrev pub over : Arithmetic Dual
   over = record {
-    Value = Dual;
     constant = constant;
     add = add;
     neg = neg;
@@ -177,10 +176,10 @@ module _ (H : Halves) where
     sum = sum_by (constant zero_d) add;
   }
 
-abbrev pub slopes : Arithmetic
+abbrev pub slopes : Arithmetic Dual
 slopes = over strict
 
-abbrev pub guarded_slopes : Arithmetic
+abbrev pub guarded_slopes : Arithmetic Dual
 guarded_slopes = over plain
 
 -- what the code works for a case that v has: `given v x`, and `failed` where v is not finite, as `choose` has it

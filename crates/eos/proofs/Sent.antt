@@ -10,7 +10,7 @@ use Rattle.uvtheory.specs.Parameters.{State, mapped}
 use Rattle.uvtheory.proofs.Kept.{Related, contributions_kept}
 use Rattle.eos.specs.Contributions.{contributions}
 
-module _ (A B : Arithmetic) (R : A.Value → B.Value → Type 0) (K : Kept A B R) (m : Mixture) where
+module _ {X Y : Type 0} (A : Arithmetic X) (B : Arithmetic Y) (R : X → Y → Type 0) (K : Kept A B R) (m : Mixture) where
   -- on any two states whose values are related
   pub on_states : (perturbation : Perturbation) (s : State (Both R)) → Related A B R K (contributions A perturbation m (mapped (λ x. x.left) s)) (contributions B perturbation m (mapped (λ x. x.right) s))
   unfolding contributions

@@ -7,5 +7,5 @@ use Rattle.uvtheory.specs.Eos.{residual_helmholtz_energy_contributions}
 use Rattle.uvtheory.specs.Inputs.{parameters}
 use Rattle.uvtheory.specs.Parameters.{State}
 
-unfoldable pub contributions : (A : Arithmetic) → Perturbation → Mixture → State A.Value → Contributions A.Value
+unfoldable pub contributions : {Value : Type 0} → Arithmetic Value → Perturbation → Mixture → State Value → Contributions Value
 contributions A perturbation m s = residual_helmholtz_energy_contributions A perturbation (parameters A m) s

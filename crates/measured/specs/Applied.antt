@@ -10,13 +10,13 @@ use Rattle.dual.specs.declared.basic.Dual.{Dual}
 use Rattle.dual.specs.Rules.{guarded_slopes}
 use Rattle.dual.specs.Rules as Dual
 
-module _ (A : Arithmetic) (failed : A.Value) where
+module _ {Value : Type 0} (A : Arithmetic Value) (failed : Value) where
   -- a where it is below t, else b; a limit must be finite
-  abbrev pub where_below : Float → A.Value → A.Value → A.Value
+  abbrev pub where_below : Float → Value → Value → Value
   where_below t a b = cond (finite t) (A.if_below a t a b) failed
 
   -- each operation of a, and of b where it takes two, then those of this meaning alone; k is the exponent of powi
-  abbrev pub operations : ℕ → Float → A.Value → A.Value → List A.Value → List A.Value
+  abbrev pub operations : ℕ → Float → Value → Value → List Value → List Value
   operations k t a b others =
       A.neg a
       ∷ A.add a b
@@ -34,7 +34,7 @@ module _ (A : Arithmetic) (failed : A.Value) where
       ∷ others
 
   -- the operation that op numbers, from 0 on; any other number has no rule
-  unfoldable pub applied : ℕ → ℕ → Float → A.Value → A.Value → List A.Value → A.Value
+  unfoldable pub applied : ℕ → ℕ → Float → Value → Value → List Value → Value
   applied op k t a b others = get_or (operations k t a b others) op failed
 
 -- ---- ranges have the other case too: a where the whole of it is above t, b where none of it is

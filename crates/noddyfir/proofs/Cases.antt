@@ -21,7 +21,7 @@ use Rattle.noddyfir.specs.Call.{ends_answer, energies_answer, slopes_answer}
 use Rattle.noddyfir.specs.Run.{Outcome, run_from, run_of}
 
 -- "combining (rep 9, 16; att 6, 6; sigma 3, 4; epsilon_k 100, 400; k 0.25)"
-abbrev mixture : UVTheoryPars doubles.Value
+abbrev mixture : UVTheoryPars Float
 mixture =
     new doubles record {
       n = 2;

@@ -41,7 +41,7 @@ certified = record {
 }
 
 -- a formula worked in `certifying` is the proof
-abbrev pub certifying : Arithmetic
+abbrev pub certifying : Arithmetic (Both Holds)
 certifying = both doubles exact Holds certified
 
 -- ---- what that says of a value with ends

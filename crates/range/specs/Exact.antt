@@ -68,9 +68,8 @@ abbrev lift₂ : (Range → Range → Range) → (Option Fraction → Option Fra
 lift₂ f g x y = record { range = f x.range y.range; at = λ c. g (x.at (part 0 c)) (y.at (part 1 c)) }
 
 -- An elementary function works its recipe on one fraction.
-abbrev pub exact : Arithmetic
+abbrev pub exact : Arithmetic Reading
 exact = record {
-  Value = Reading;
   constant = λ k. record { range = rules.constant k; at = λ c. fractions.constant k };
   add = lift₂ rules.add fractions.add;
   neg = lift rules.neg fractions.neg;

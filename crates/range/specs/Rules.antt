@@ -157,5 +157,5 @@ rules = record {
   step = step;
 }
 
-abbrev pub ranges : Arithmetic
+abbrev pub ranges : Arithmetic Range
 ranges = over rules sqrt

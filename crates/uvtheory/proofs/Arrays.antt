@@ -20,9 +20,7 @@ pub matrix_at : {X : Type 0} (none : X) (n : ℕ) (xs : List X) (f : ℕ → ℕ
 matrix_at none n xs f h k l = ap (λ (i : ℕ). get_or xs i none) (at_pair n k) ∙ h k l
 
 -- ---- in any arithmetic that adds from the left
-module _ (A : Arithmetic) (adds : Adds A) where
-  open A use {Value}
-
+module _ {Value : Type 0} (A : Arithmetic Value) (adds : Adds A) where
   -- over the components, by an array; `none` is read past its end
   module _ (none : Value) (n : ℕ) (w : ℕ → Value) (xs : List Value) (f : ℕ → Value) (h : RowOf none n xs f) where
     pub mean_cube_of : O.mean_cube A n w (row_of none xs) ≡ O.mean_cube A n w f

@@ -22,16 +22,16 @@ use Rattle.uvtheory.specs.Wca.AttractivePerturbation as WcaA
 use Rattle.uvtheory.specs.Wca.AttractivePerturbationUvb3 as B3A
 use Rattle.uvtheory.specs.Eos.{residual_helmholtz_energy_contributions}
 
-module _ (A B : Arithmetic) (R : A.Value → B.Value → Type 0) (K : Kept A B R) where
-  abbrev AB : Arithmetic
+module _ {X Y : Type 0} (A : Arithmetic X) (B : Arithmetic Y) (R : X → Y → Type 0) (K : Kept A B R) where
+  abbrev AB : Arithmetic (Both R)
   AB = both A B R K
 
-  pub record Related (c : Contributions A.Value) (d : Contributions B.Value) : Type 0 where
+  pub record Related (c : Contributions X) (d : Contributions Y) : Type 0 where
     pub hard_sphere_is : R c.hard_sphere d.hard_sphere
     pub reference_is : R c.reference d.reference
     pub attractive_is : R c.attractive d.attractive
 
-  combined_kept : {f : ℕ → ℕ → A.Value} {g : ℕ → ℕ → B.Value} (pure : ℕ → Both R) → ((i j : ℕ) → R (f i j) (g i j)) → (i j : ℕ) → R (combined (λ k. (pure k).left) f i j) (combined (λ k. (pure k).right) g i j)
+  combined_kept : {f : ℕ → ℕ → X} {g : ℕ → ℕ → Y} (pure : ℕ → Both R) → ((i j : ℕ) → R (f i j) (g i j)) → (i j : ℕ) → R (combined (λ k. (pure k).left) f i j) (combined (λ k. (pure k).right) g i j)
   combined_kept {f} {g} pure h i j = go (eqb i j) (ltb i j)
     where
       go : (b c : Bool) → R (cond b (pure i).left (cond c (f i j) (f j i))) (cond b (pure i).right (cond c (g i j) (g j i)))
@@ -61,17 +61,17 @@ module _ (A B : Arithmetic) (R : A.Value → B.Value → Type 0) (K : Kept A B R
           cd_bh_pure = λ i. bh_coefficients AB (rep i) (AB.constant six);
         }
 
-    abbrev left : UVTheoryPars A.Value
+    abbrev left : UVTheoryPars X
     left = new A p
 
-    abbrev right : UVTheoryPars B.Value
+    abbrev right : UVTheoryPars Y
     right = new B p
 
     module _ (s : State (Both R)) where
-      abbrev sl : State A.Value
+      abbrev sl : State X
       sl = mapped (λ x. x.left) s
 
-      abbrev sr : State B.Value
+      abbrev sr : State Y
       sr = mapped (λ x. x.right) s
 
       bh_sphere : R (Bh.residual_helmholtz_energy_contributions A left sl).hard_sphere (Bh.residual_helmholtz_energy_contributions B right sr).hard_sphere

@@ -6,15 +6,15 @@ use Rattle.arithmetic.specs.Arithmetic.{Arithmetic, sum_by}
 use Rattle.uvtheory.specs.Rows.{RowOf}
 
 -- ---- sums, in any arithmetic that adds from the left
-abbrev pub Adds : Arithmetic → Type 0
-Adds A = (n : ℕ) (f : ℕ → A.Value) → A.sum n f ≡ sum_by (A.constant zero_d) A.add n f
+abbrev pub Adds : {Value : Type 0} → Arithmetic Value → Type 0
+Adds {Value = Value} A = (n : ℕ) (f : ℕ → Value) → A.sum n f ≡ sum_by (A.constant zero_d) A.add n f
 
-module _ (A : Arithmetic) (adds : Adds A) where
-  pub sum_step : (f : ℕ → A.Value) (i : ℕ) → A.sum (i + 1) f ≡ A.add (A.sum i f) (f i)
+module _ {Value : Type 0} (A : Arithmetic Value) (adds : Adds A) where
+  pub sum_step : (f : ℕ → Value) (i : ℕ) → A.sum (i + 1) f ≡ A.add (A.sum i f) (f i)
   unfolding sum_by
   sum_step f i = rw (adds (i + 1) f, add-one i, adds i f)
 
-  pub sum_ext : (n : ℕ) (f g : ℕ → A.Value) → ((i : ℕ) → i < n → f i ≡ g i) → A.sum n f ≡ A.sum n g
+  pub sum_ext : (n : ℕ) (f g : ℕ → Value) → ((i : ℕ) → i < n → f i ≡ g i) → A.sum n f ≡ A.sum n g
   unfolding sum_by
   sum_ext n f g h = adds n f ∙ go n h ∙ sym (adds n g)
     where

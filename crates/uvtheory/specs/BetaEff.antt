@@ -2,8 +2,8 @@
 use Rattle.std.specs.Prelude.{ℕ, Float}
 use Rattle.arithmetic.specs.Arithmetic.{Arithmetic}
 
-module _ (A : Arithmetic) where
-  open A use {Value, constant, add as ◌+◌, div as ◌/◌}
+module _ {Value : Type 0} (A : Arithmetic Value) where
+  open A use {constant, add as ◌+◌, div as ◌/◌}
 
   infixl 60 ◌+◌
   infixl 70 ◌/◌

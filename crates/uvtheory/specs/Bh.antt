@@ -10,8 +10,8 @@ use Rattle.uvtheory.specs.Bh.HardSphere.{diameter_bh}
 use Rattle.uvtheory.specs.Bh.ReferencePerturbation as Reference
 use Rattle.uvtheory.specs.Bh.AttractivePerturbation as Attractive
 
-module _ (A : Arithmetic) where
-  abbrev pub residual_helmholtz_energy_contributions : UVTheoryPars A.Value → State A.Value → Contributions A.Value
+module _ {Value : Type 0} (A : Arithmetic Value) where
+  abbrev pub residual_helmholtz_energy_contributions : UVTheoryPars Value → State Value → Contributions Value
   residual_helmholtz_energy_contributions p state = record {
     hard_sphere = Spheres.helmholtz_energy_density A p.n (Spheres.spherical A) (diameter_bh A p state.temperature) state;
     reference = Reference.helmholtz_energy_density A p state;

@@ -7,8 +7,8 @@ use Rattle.uvtheory.specs.Contributions.{Contributions}
 use Rattle.uvtheory.specs.Bh as Bh
 use Rattle.uvtheory.specs.Wca as Wca
 
-module _ (A : Arithmetic) where
-  unfoldable pub residual_helmholtz_energy_contributions : Perturbation → UVTheoryPars A.Value → State A.Value → Contributions A.Value
+module _ {Value : Type 0} (A : Arithmetic Value) where
+  unfoldable pub residual_helmholtz_energy_contributions : Perturbation → UVTheoryPars Value → State Value → Contributions Value
   residual_helmholtz_energy_contributions BarkerHenderson = Bh.residual_helmholtz_energy_contributions A
   residual_helmholtz_energy_contributions WeeksChandlerAndersen = Wca.residual_helmholtz_energy_contributions A
   residual_helmholtz_energy_contributions WeeksChandlerAndersenB3 = Wca.residual_helmholtz_energy_contributions_b3 A

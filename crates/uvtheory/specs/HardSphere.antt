@@ -5,8 +5,8 @@ use Rattle.arithmetic.specs.Sums.{recip}
 use Rattle.uvtheory.specs.Literals.{one, three, FRAC_PI_6}
 use Rattle.uvtheory.specs.Parameters.{State}
 
-module _ (A : Arithmetic) where
-  open A use {Value, constant, add as ◌+◌, sub as ◌-◌, mul as ◌*◌, div as ◌/◌, neg as -◌, powi as ◌^◌, ln1p, sum}
+module _ {Value : Type 0} (A : Arithmetic Value) where
+  open A use {constant, add as ◌+◌, sub as ◌-◌, mul as ◌*◌, div as ◌/◌, neg as -◌, powi as ◌^◌, ln1p, sum}
 
   infixl 60 ◌+◌ ◌-◌
   infixl 70 ◌*◌ ◌/◌

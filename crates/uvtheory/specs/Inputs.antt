@@ -19,9 +19,9 @@ sent m = record {
 abbrev pub held : HeldState → State Float
 held s = record { temperature = s.temperature; partial_density = row s.partial_density; molefracs = row s.molefracs }
 
-module _ (A : Arithmetic) where
-  abbrev pub parameters : Mixture → UVTheoryPars A.Value
+module _ {Value : Type 0} (A : Arithmetic Value) where
+  abbrev pub parameters : Mixture → UVTheoryPars Value
   parameters m = new A (sent m)
 
-  abbrev pub state : HeldState → State A.Value
+  abbrev pub state : HeldState → State Value
   state s = mapped A.constant (held s)

@@ -15,8 +15,8 @@ pub record OneFluid (X : Type 0) : Type 0 where
   pub epsilon_k : X
   pub d : X
 
-module _ (A : Arithmetic) where
-  open A use {Value, constant, mul as ◌*◌, div as ◌/◌, powi as ◌^◌, powf}
+module _ {Value : Type 0} (A : Arithmetic Value) where
+  open A use {constant, mul as ◌*◌, div as ◌/◌, powi as ◌^◌, powf}
 
   infixl 70 ◌*◌ ◌/◌
   infix 90 ◌^◌

@@ -3,8 +3,8 @@ use Rattle.std.specs.Prelude.{ℕ, Float}
 use Rattle.arithmetic.specs.Arithmetic.{Arithmetic}
 use Rattle.uvtheory.specs.Literals.{one, six, PI}
 
-module _ (A : Arithmetic) where
-  open A use {Value, constant, add as ◌+◌, mul as ◌*◌, div as ◌/◌, powi as ◌^◌, sum}
+module _ {Value : Type 0} (A : Arithmetic Value) where
+  open A use {constant, add as ◌+◌, mul as ◌*◌, div as ◌/◌, powi as ◌^◌, sum}
 
   infixl 60 ◌+◌
   infixl 70 ◌*◌ ◌/◌

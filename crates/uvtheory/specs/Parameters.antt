@@ -40,8 +40,8 @@ mapped f s = record { temperature = f s.temperature; partial_density = λ i. f (
 abbrev pub combined : {X : Type 0} → (ℕ → X) → (ℕ → ℕ → X) → ℕ → ℕ → X
 combined pure f i j = cond (i == j) (pure i) (cond (nat_lt i j) (f i j) (f j i))
 
-module _ (A : Arithmetic) where
-  open A use {Value, constant, add as ◌+◌, sub as ◌-◌, mul as ◌*◌, div as ◌/◌, neg as -◌, sqrt, powf}
+module _ {Value : Type 0} (A : Arithmetic Value) where
+  open A use {constant, add as ◌+◌, sub as ◌-◌, mul as ◌*◌, div as ◌/◌, neg as -◌, sqrt, powf}
 
   infixl 60 ◌+◌ ◌-◌
   infixl 70 ◌*◌ ◌/◌

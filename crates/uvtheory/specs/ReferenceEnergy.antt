@@ -2,8 +2,8 @@
 use Rattle.arithmetic.specs.Arithmetic.{Arithmetic}
 use Rattle.uvtheory.specs.Literals.{two, three, PI}
 
-module _ (A : Arithmetic) where
-  open A use {Value, constant, mul as ◌*◌, div as ◌/◌, neg as -◌, powi as ◌^◌}
+module _ {Value : Type 0} (A : Arithmetic Value) where
+  open A use {constant, mul as ◌*◌, div as ◌/◌, neg as -◌, powi as ◌^◌}
 
   infixl 70 ◌*◌ ◌/◌
   infix 80 -◌

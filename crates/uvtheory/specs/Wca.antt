@@ -13,15 +13,15 @@ use Rattle.uvtheory.specs.Wca.ReferencePerturbation as Reference
 use Rattle.uvtheory.specs.Wca.AttractivePerturbation as Attractive
 use Rattle.uvtheory.specs.Wca.AttractivePerturbationUvb3 as AttractiveB3
 
-module _ (A : Arithmetic) where
-  abbrev pub residual_helmholtz_energy_contributions : UVTheoryPars A.Value → State A.Value → Contributions A.Value
+module _ {Value : Type 0} (A : Arithmetic Value) where
+  abbrev pub residual_helmholtz_energy_contributions : UVTheoryPars Value → State Value → Contributions Value
   residual_helmholtz_energy_contributions p state = record {
     hard_sphere = Spheres.helmholtz_energy_density A p.n (Spheres.spherical A) (diameter_wca A p state.temperature) state;
     reference = Reference.helmholtz_energy_density A WCA_CONSTANTS_ETA_A WCA_CONSTANTS_ETA_B p state;
     attractive = Attractive.helmholtz_energy_density A p state;
   }
 
-  abbrev pub residual_helmholtz_energy_contributions_b3 : UVTheoryPars A.Value → State A.Value → Contributions A.Value
+  abbrev pub residual_helmholtz_energy_contributions_b3 : UVTheoryPars Value → State Value → Contributions Value
   residual_helmholtz_energy_contributions_b3 p state = record {
     hard_sphere = Spheres.helmholtz_energy_density A p.n (Spheres.spherical A) (diameter_wca A p state.temperature) state;
     reference = Reference.helmholtz_energy_density A WCA_CONSTANTS_ETA_A_UVB3 WCA_CONSTANTS_ETA_B_UVB3 p state;

@@ -9,8 +9,8 @@ use Rattle.uvtheory.specs.Bh.HardSphere.{diameter_bh}
 use Rattle.uvtheory.specs.OneFluid.{OneFluid, one_fluid_properties, virial_sum, mean_cube}
 use Rattle.uvtheory.specs.BetaEff.{coefficient_2}
 
-module _ (A : Arithmetic) where
-  open A use {Value, constant, add as ◌+◌, sub as ◌-◌, mul as ◌*◌, div as ◌/◌, neg as -◌, powi as ◌^◌, sqrt, ln, exp, powf, tanh, sum}
+module _ {Value : Type 0} (A : Arithmetic Value) where
+  open A use {constant, add as ◌+◌, sub as ◌-◌, mul as ◌*◌, div as ◌/◌, neg as -◌, powi as ◌^◌, sqrt, ln, exp, powf, tanh, sum}
 
   infixl 60 ◌+◌ ◌-◌
   infixl 70 ◌*◌ ◌/◌

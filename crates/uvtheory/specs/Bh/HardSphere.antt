@@ -4,8 +4,8 @@ use Rattle.arithmetic.specs.Arithmetic.{Arithmetic}
 use Rattle.uvtheory.specs.Literals.{quarter, half, three_quarters, one, five_quarters, minus_half}
 use Rattle.uvtheory.specs.Parameters.{UVTheoryPars}
 
-module _ (A : Arithmetic) where
-  open A use {Value, constant, add as ◌+◌, mul as ◌*◌, div as ◌/◌, neg as -◌, powi as ◌^◌, ln, powf}
+module _ {Value : Type 0} (A : Arithmetic Value) where
+  open A use {constant, add as ◌+◌, mul as ◌*◌, div as ◌/◌, neg as -◌, powi as ◌^◌, ln, powf}
 
   infixl 60 ◌+◌
   infixl 70 ◌*◌ ◌/◌

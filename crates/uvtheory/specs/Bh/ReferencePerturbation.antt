@@ -9,8 +9,8 @@ use Rattle.uvtheory.specs.PackingFraction.{packing_fraction, packing_fraction_a,
 use Rattle.uvtheory.specs.ReferenceEnergy.{energy}
 use Rattle.uvtheory.specs.Bh.HardSphere.{diameter_bh, tau}
 
-module _ (A : Arithmetic) where
-  open A use {Value, constant, add as ◌+◌, sub as ◌-◌, mul as ◌*◌, div as ◌/◌, neg as -◌, powi as ◌^◌, sum}
+module _ {Value : Type 0} (A : Arithmetic Value) where
+  open A use {constant, add as ◌+◌, sub as ◌-◌, mul as ◌*◌, div as ◌/◌, neg as -◌, powi as ◌^◌, sum}
 
   infixl 60 ◌+◌ ◌-◌
   infixl 70 ◌*◌ ◌/◌

@@ -9,8 +9,8 @@ use Rattle.uvtheory.specs.OneFluid.{OneFluid, one_fluid_properties, virial_sum, 
 use Rattle.uvtheory.specs.BetaEff.{coefficient_2}
 use Rattle.uvtheory.specs.Wca.HardSphere.{rm_of, diameter_wca, dimensionless_diameter_q_wca}
 
-module _ (A : Arithmetic) where
-  open A use {Value, constant, add as ◌+◌, sub as ◌-◌, mul as ◌*◌, div as ◌/◌, neg as -◌, powi as ◌^◌, exp, powf, tanh, sum}
+module _ {Value : Type 0} (A : Arithmetic Value) where
+  open A use {constant, add as ◌+◌, sub as ◌-◌, mul as ◌*◌, div as ◌/◌, neg as -◌, powi as ◌^◌, exp, powf, tanh, sum}
 
   infixl 60 ◌+◌ ◌-◌
   infixl 70 ◌*◌ ◌/◌

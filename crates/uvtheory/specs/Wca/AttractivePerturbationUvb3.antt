@@ -12,8 +12,8 @@ use Rattle.uvtheory.specs.PackingFraction.{coefficient_b}
 use Rattle.uvtheory.specs.Wca.HardSphere.{rm_of, diameter_wca, dimensionless_diameter_q_wca}
 use Rattle.uvtheory.specs.Wca.AttractivePerturbation.{delta_b12u, delta_a1u_of}
 
-module _ (A : Arithmetic) where
-  open A use {Value, constant, add as ◌+◌, sub as ◌-◌, mul as ◌*◌, div as ◌/◌, neg as -◌, powi as ◌^◌, exp, powf, tanh, if_below, sum}
+module _ {Value : Type 0} (A : Arithmetic Value) where
+  open A use {constant, add as ◌+◌, sub as ◌-◌, mul as ◌*◌, div as ◌/◌, neg as -◌, powi as ◌^◌, exp, powf, tanh, if_below, sum}
 
   infixl 60 ◌+◌ ◌-◌
   infixl 70 ◌*◌ ◌/◌

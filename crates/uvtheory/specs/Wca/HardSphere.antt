@@ -6,8 +6,8 @@ use Rattle.uvtheory.specs.Literals.{half, one, two, three, six, seven, twelve, P
 use Rattle.uvtheory.specs.Tables.{WCA_CONSTANTS_Q}
 use Rattle.uvtheory.specs.Parameters.{UVTheoryPars}
 
-module _ (A : Arithmetic) where
-  open A use {Value, constant, add as ◌+◌, sub as ◌-◌, mul as ◌*◌, div as ◌/◌, neg as -◌, powi as ◌^◌, sqrt, powf}
+module _ {Value : Type 0} (A : Arithmetic Value) where
+  open A use {constant, add as ◌+◌, sub as ◌-◌, mul as ◌*◌, div as ◌/◌, neg as -◌, powi as ◌^◌, sqrt, powf}
 
   infixl 60 ◌+◌ ◌-◌
   infixl 70 ◌*◌ ◌/◌

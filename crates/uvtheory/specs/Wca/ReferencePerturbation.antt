@@ -9,8 +9,8 @@ use Rattle.uvtheory.specs.PackingFraction.{packing_fraction, packing_fraction_a,
 use Rattle.uvtheory.specs.ReferenceEnergy.{energy}
 use Rattle.uvtheory.specs.Wca.HardSphere.{rm_of, diameter_wca, dimensionless_diameter_q_wca, dimensionless_length_scale, tau}
 
-module _ (A : Arithmetic) where
-  open A use {Value, constant, add as ◌+◌, sub as ◌-◌, mul as ◌*◌, div as ◌/◌, neg as -◌, powi as ◌^◌, sum}
+module _ {Value : Type 0} (A : Arithmetic Value) where
+  open A use {constant, add as ◌+◌, sub as ◌-◌, mul as ◌*◌, div as ◌/◌, neg as -◌, powi as ◌^◌, sum}
 
   infixl 60 ◌+◌ ◌-◌
   infixl 70 ◌*◌ ◌/◌
