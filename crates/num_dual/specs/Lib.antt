@@ -1,0 +1,1 @@
+-- The trait of number types has its operations in crate arithmetic; here stand the numbers themselves.

@@ -1,0 +1,5 @@
+// The number types that the formulas are generic over, as the Rust's are over num-dual's DualNum.
+#![tactic(auto)]
+
+pub mod dual_num;
+pub mod sums;
