@@ -8,7 +8,7 @@ use Rattle.range.specs.Rules as Range
 use Rattle.dual.specs.declared.basic.Dual.{Dual}
 use Rattle.dual.specs.Rules.{strict, slopes}
 use Rattle.dual.specs.Rules as Dual
-use Rattle.uvtheory.specs.Contributions.{Contributions}
+use Rattle.uvtheory.specs.declared.contributions.Contributions.{Contributions}
 use Rattle.uvtheory.specs.Inputs as Inputs
 use Rattle.eos.specs.Contributions.{contributions}
 use Rattle.eos.specs.Slopes.{started}

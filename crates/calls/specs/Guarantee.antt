@@ -5,7 +5,7 @@ use Rattle.arithmetic.specs.Fraction.{Fraction, ◌⊖◌, Close}
 use Rattle.arithmetic.specs.Value.{value, Within}
 use Rattle.range.specs.declared.basic.Range.{Range}
 use Rattle.range.specs.Exact.{Choices, Reading, exact}
-use Rattle.uvtheory.specs.Contributions.{Contributions}
+use Rattle.uvtheory.specs.declared.contributions.Contributions.{Contributions}
 use Rattle.uvtheory.specs.Inputs.{state}
 use Rattle.eos.specs.Contributions.{contributions}
 use Rattle.case_record.specs.declared.case.Case.{Case}

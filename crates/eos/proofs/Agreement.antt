@@ -6,7 +6,7 @@ use Rattle.arithmetic.proofs.Agreement.{Same, agreement}
 use Rattle.uvtheory.specs.declared.eos.Perturbation.{Perturbation}
 use Rattle.uvtheory.specs.declared.parameters.Mixture.{Mixture}
 use Rattle.uvtheory.specs.declared.parameters.State.{State}
-use Rattle.uvtheory.specs.Contributions.{Contributions}
+use Rattle.uvtheory.specs.declared.contributions.Contributions.{Contributions}
 use Rattle.uvtheory.specs.Inputs.{state}
 use Rattle.eos.specs.Contributions.{contributions}
 use Rattle.eos.proofs.Sent.{as_sent}

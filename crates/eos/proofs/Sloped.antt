@@ -10,7 +10,7 @@ use Rattle.dual.proofs.Agreement.{Same, agreement, start_kept}
 use Rattle.uvtheory.specs.declared.eos.Perturbation.{Perturbation}
 use Rattle.uvtheory.specs.declared.parameters.Mixture.{Mixture}
 use Rattle.uvtheory.specs.declared.parameters.State.{State}
-use Rattle.uvtheory.specs.Contributions.{Contributions}
+use Rattle.uvtheory.specs.declared.contributions.Contributions.{Contributions}
 use Rattle.uvtheory.specs.Inputs.{state}
 use Rattle.uvtheory.specs.Rows.{row}
 use Rattle.eos.specs.Contributions.{contributions}

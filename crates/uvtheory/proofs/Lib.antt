@@ -1,7 +1,7 @@
 -- The laws of the formulas.
 pub mod Place
 pub mod Combined
-pub mod Arrays
+pub mod Sums
 pub mod Loops
 pub mod Eight
 pub mod Kept

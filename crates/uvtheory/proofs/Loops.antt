@@ -1,5 +1,5 @@
 -- What a loop over components or pairs adds in one turn, and that sums agree whose terms agree.
-use Rattle.std.proofs.Common.{◌≡◌, ℕ, zero, suc, ◌+◌, ◌-◌, ◌*◌, ◌/◌, ◌%◌, ◌<◌, ◌≤◌, ◌⊎◌, List, length, get_or, set, sym, refl, ◌∙◌, subst, ap₂, inl, inr, le_refl, le_of_suc-le-suc, lt_irrefl, mod-lt, suc-mul, div-lt_iff_lt-mul, add-mul, mul-le-mul, eq-or-lt_of_le, div-add-mod', add_left_cancel, add-one, arith, lit≤, length-set, get_or-set_other, get_or-set_same, w64, Fits}
+use Rattle.std.proofs.Common.{◌≡◌, ℕ, zero, suc, ◌+◌, ◌-◌, ◌*◌, ◌/◌, ◌%◌, ◌<◌, ◌≤◌, ◌⊎◌, List, length, get_or, set, sym, refl, ◌∙◌, subst, ap, ap₂, inl, inr, le_refl, le_of_suc-le-suc, lt_irrefl, mod-lt, suc-mul, div-lt_iff_lt-mul, add-mul, mul-le-mul, eq-or-lt_of_le, div-add-mod', add_left_cancel, add-one, arith, lit≤, length-set, get_or-set_other, get_or-set_same, w64, Fits}
 use native.Mathlib.Nat.{div-eq_of_lt-le}
 use Rattle.arithmetic.specs.Constants.{zero_d}
 use Rattle.arithmetic.specs.Arithmetic.{Arithmetic, sum_by}
@@ -9,14 +9,16 @@ use Rattle.uvtheory.specs.Rows.{RowOf}
 abbrev pub Adds : {Value : Type 0} → Arithmetic Value → Type 0
 Adds {Value = Value} A = (n : ℕ) (f : ℕ → Value) → A.sum n f ≡ sum_by (A.constant zero_d) A.add n f
 
-module _ {Value : Type 0} (A : Arithmetic Value) (adds : Adds A) where
-  pub sum_step : (f : ℕ → Value) (i : ℕ) → A.sum (i + 1) f ≡ A.add (A.sum i f) (f i)
+module _ {Value : Type 0} (A : Arithmetic Value) where
+  -- by the laws of a number type
+  pub adds : ((f : ℕ → Value) → A.sum 0 f ≡ A.constant zero_d) → ((n : ℕ) (f : ℕ → Value) → A.sum (n + 1) f ≡ A.add (A.sum n f) (f n)) → Adds A
   unfolding sum_by
-  sum_step f i = rw (adds (i + 1) f, add-one i, adds i f)
+  adds start step zero f = start f
+  adds start step (suc n) f = subst (λ (k : ℕ). A.sum k f ≡ A.add (sum_by (A.constant zero_d) A.add n f) (f n)) (add-one n) (step n f ∙ ap (λ (v : Value). A.add v (f n)) (adds start step n f))
 
-  pub sum_ext : (n : ℕ) (f g : ℕ → Value) → ((i : ℕ) → i < n → f i ≡ g i) → A.sum n f ≡ A.sum n g
+  pub sum_ext : Adds A → (n : ℕ) (f g : ℕ → Value) → ((i : ℕ) → i < n → f i ≡ g i) → A.sum n f ≡ A.sum n g
   unfolding sum_by
-  sum_ext n f g h = adds n f ∙ go n h ∙ sym (adds n g)
+  sum_ext left n f g h = left n f ∙ go n h ∙ sym (left n g)
     where
       go : (n : ℕ) → ((i : ℕ) → i < n → f i ≡ g i) → sum_by (A.constant zero_d) A.add n f ≡ sum_by (A.constant zero_d) A.add n g
       go zero h = refl

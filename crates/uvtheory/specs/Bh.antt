@@ -4,7 +4,7 @@ pub mod ReferencePerturbation
 pub mod AttractivePerturbation
 use Rattle.arithmetic.specs.Arithmetic.{Arithmetic}
 use Rattle.uvtheory.specs.Parameters.{UVTheoryPars, State}
-use Rattle.uvtheory.specs.Contributions.{Contributions}
+use Rattle.uvtheory.specs.declared.contributions.Contributions.{Contributions}
 use Rattle.uvtheory.specs.HardSphere as Spheres
 use Rattle.uvtheory.specs.Bh.HardSphere.{diameter_bh}
 use Rattle.uvtheory.specs.Bh.ReferencePerturbation as Reference

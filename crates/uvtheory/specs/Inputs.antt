@@ -1,27 +1,32 @@
--- How a mixture and a state, as the code holds them, enter the formulas: their doubles as sent, each a constant of the arithmetic.
+-- How a mixture and a state, as the code holds them, enter the formulas: a mixture by its doubles as sent, each a constant of the arithmetic; a state by its values.
 use Rattle.std.specs.Prelude.{Float}
 use Rattle.arithmetic.specs.Arithmetic.{Arithmetic}
 use Rattle.uvtheory.specs.declared.parameters.Mixture.{Mixture}
 use Rattle.uvtheory.specs.declared.parameters.State.{State as HeldState}
 use Rattle.uvtheory.specs.Parameters.{UVTheoryParameters, UVTheoryPars, State, mapped, new}
-use Rattle.uvtheory.specs.Rows.{row, place}
+use Rattle.uvtheory.specs.Rows.{doubles, row, place}
 
 abbrev pub sent : Mixture → UVTheoryParameters
 sent m = record {
   n = m.n;
-  rep = row m.rep;
-  att = row m.att;
-  sigma = row m.sigma;
-  epsilon_k = row m.epsilon_k;
-  k_ij = λ i j. row m.k_ij (place m.n i j);
+  rep = doubles m.rep;
+  att = doubles m.att;
+  sigma = doubles m.sigma;
+  epsilon_k = doubles m.epsilon_k;
+  k_ij = λ i j. doubles m.k_ij (place m.n i j);
 }
 
-abbrev pub held : HeldState → State Float
-held s = record { temperature = s.temperature; partial_density = row s.partial_density; molefracs = row s.molefracs }
+abbrev pub held : HeldState Float → State Float
+held s = record { temperature = s.temperature; partial_density = doubles s.partial_density; molefracs = doubles s.molefracs }
 
 module _ {Value : Type 0} (A : Arithmetic Value) where
   abbrev pub parameters : Mixture → UVTheoryPars Value
   parameters m = new A (sent m)
 
-  abbrev pub state : HeldState → State Value
+  -- in values of the arithmetic
+  abbrev pub state_of : HeldState Value → State Value
+  state_of s = record { temperature = s.temperature; partial_density = row A s.partial_density; molefracs = row A s.molefracs }
+
+  -- in doubles, as sent
+  abbrev pub state : HeldState Float → State Value
   state s = mapped A.constant (held s)

@@ -4,7 +4,6 @@ pub mod Digits
 pub mod Factorials
 pub mod Literals
 pub mod Parameters
-pub mod Contributions
 pub mod HardSphere
 pub mod PackingFraction
 pub mod ReferenceEnergy

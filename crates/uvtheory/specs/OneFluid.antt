@@ -4,16 +4,8 @@ use Rattle.std.specs.Prelude.{ℕ}
 use Rattle.arithmetic.specs.Arithmetic.{Arithmetic}
 use Rattle.arithmetic.specs.Sums.{dot, pairs}
 use Rattle.uvtheory.specs.Literals.{one, three}
+use Rattle.uvtheory.specs.declared.one_fluid.OneFluid.{OneFluid}
 use Rattle.uvtheory.specs.Parameters.{UVTheoryPars}
-
--- the Rust's six values, in its order
-pub record OneFluid (X : Type 0) : Type 0 where
-  pub rep : X
-  pub att : X
-  pub sigma : X
-  pub weighted_sigma3_ij : X
-  pub epsilon_k : X
-  pub d : X
 
 module _ {Value : Type 0} (A : Arithmetic Value) where
   open A use {constant, mul as ◌*◌, div as ◌/◌, powi as ◌^◌, powf}

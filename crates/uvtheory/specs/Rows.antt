@@ -1,8 +1,7 @@
 -- Arrays of the code as the functions that the formulas take. A mixture's row holds n values, and a matrix of n rows of n values stands row by row.
 use Rattle.std.specs.Prelude.{◌≡◌, ℕ, ◌+◌, ◌-◌, ◌*◌, ◌/◌, ◌%◌, ◌<◌, List, slice_index_or, Float}
 use Rattle.std.specs.Float.{nan}
-use Rattle.uvtheory.specs.declared.one_fluid.OneFluid.{OneFluid as Held}
-use Rattle.uvtheory.specs.OneFluid.{OneFluid}
+use Rattle.arithmetic.specs.Arithmetic.{Arithmetic}
 
 -- of any values; `none` is read past the end
 module _ {X : Type 0} (none : X) where
@@ -19,23 +18,34 @@ module _ {X : Type 0} (none : X) where
   abbrev pub MatrixOf : ℕ → List X → (ℕ → ℕ → X) → Type 0
   MatrixOf n xs f = (k : ℕ) → k < n * n → slice_index_or xs k none ≡ f (k / n) (k % n)
 
--- of doubles
-abbrev pub row : List Float → ℕ → Float
-row = row_of nan
+  -- below the diagonal stands what stands above it
+  abbrev pub SymmetricOf : ℕ → List X → Type 0
+  SymmetricOf n xs = (k : ℕ) → k < n * n → k % n < k / n → slice_index_or xs (k % n * n + k / n) none ≡ slice_index_or xs k none
 
-abbrev pub matrix : ℕ → List Float → ℕ → ℕ → Float
-matrix = matrix_of nan
+-- of doubles, as sent or in a table
+abbrev pub doubles : List Float → ℕ → Float
+doubles = row_of nan
 
-abbrev pub Row : ℕ → List Float → (ℕ → Float) → Type 0
-Row = RowOf nan
+-- of values of an arithmetic
+module _ {Value : Type 0} (A : Arithmetic Value) where
+  abbrev pub missing : Value
+  missing = A.constant nan
 
-abbrev pub Matrix : ℕ → List Float → (ℕ → ℕ → Float) → Type 0
-Matrix = MatrixOf nan
+  abbrev pub row : List Value → ℕ → Value
+  row = row_of missing
+
+  abbrev pub matrix : ℕ → List Value → ℕ → ℕ → Value
+  matrix = matrix_of missing
+
+  abbrev pub Row : ℕ → List Value → (ℕ → Value) → Type 0
+  Row = RowOf missing
+
+  abbrev pub Matrix : ℕ → List Value → (ℕ → ℕ → Value) → Type 0
+  Matrix = MatrixOf missing
+
+  abbrev pub Symmetric : ℕ → List Value → Type 0
+  Symmetric = SymmetricOf missing
 
 -- the place of k_ij among those of i below j, row by row
 abbrev pub place : ℕ → ℕ → ℕ → ℕ
 place n i j = i * (2 * n - i - 1) / 2 + (j - i - 1)
-
--- the properties of the one fluid, as the code holds them
-abbrev pub fluid : Held → OneFluid Float
-fluid o = record { rep = o.rep; att = o.att; sigma = o.sigma; weighted_sigma3_ij = o.weighted_sigma3_ij; epsilon_k = o.epsilon_k; d = o.d }

@@ -6,7 +6,7 @@ pub mod AttractivePerturbationUvb3
 use Rattle.arithmetic.specs.Arithmetic.{Arithmetic}
 use Rattle.uvtheory.specs.Tables.{WCA_CONSTANTS_ETA_A, WCA_CONSTANTS_ETA_B, WCA_CONSTANTS_ETA_A_UVB3, WCA_CONSTANTS_ETA_B_UVB3}
 use Rattle.uvtheory.specs.Parameters.{UVTheoryPars, State}
-use Rattle.uvtheory.specs.Contributions.{Contributions}
+use Rattle.uvtheory.specs.declared.contributions.Contributions.{Contributions}
 use Rattle.uvtheory.specs.HardSphere as Spheres
 use Rattle.uvtheory.specs.Wca.HardSphere.{diameter_wca}
 use Rattle.uvtheory.specs.Wca.ReferencePerturbation as Reference

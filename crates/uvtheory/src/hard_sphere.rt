@@ -1,90 +1,76 @@
 // hard_sphere/mod.rs: the hard-sphere term.
 ghost use Rattle.std.specs.Prelude.{◌≡◌, ◌≤◌};
-ghost use Rattle.arithmetic.specs.Doubles.{guarded};
 ghost use Rattle.uvtheory.specs.Rows.{row};
-ghost use Rattle.uvtheory.specs.Inputs.{state};
+ghost use Rattle.uvtheory.specs.Inputs.{state_of};
 ghost use Rattle.uvtheory.specs.HardSphere as F;
 
 use crate::consts::FRAC_PI_6;
 use crate::parameters::State;
-use elementary::logarithm::ln_1p;
-use operations::basic::div;
+use num_dual::dual_num::DualNum;
 
-// The four zeta of the fractions.
-#[derive(Clone, Copy)]
-pub struct Zeta {
-    pub z0: f64,
-    pub z1: f64,
-    pub z2: f64,
-    pub z3: f64,
-}
-
-pub fn weighted_zeta(n: usize, unit: &[f64; 8], diameter: &[f64; 8], weights: &[f64; 8]) -> Zeta
+// The zeta of the fractions with the diameters to the k.
+#[tactic(auto, unfolding(crate::specs::HardSphere::weighted_zeta))]
+pub fn weighted_zeta<D: DualNum>(
+    n: usize,
+    unit: &[D; 8],
+    diameter: &[D; 8],
+    weights: &[D; 8],
+    k: u64,
+) -> D
     requires { n ≤ 8 }
-    ensures { (result.z0 ≡ F.weighted_zeta guarded n (row unit.now) (row diameter.now) (row weights.now) 0)
-        × (result.z1 ≡ F.weighted_zeta guarded n (row unit.now) (row diameter.now) (row weights.now) 1)
-        × (result.z2 ≡ F.weighted_zeta guarded n (row unit.now) (row diameter.now) (row weights.now) 2)
-        × (result.z3 ≡ F.weighted_zeta guarded n (row unit.now) (row diameter.now) (row weights.now) 3) }
+    ensures { result ≡ F.weighted_zeta D.arithmetic n (row D.arithmetic unit.now) (row D.arithmetic diameter.now) (row D.arithmetic weights.now) k }
 {
-    let mut z0 = 0.0;
-    let mut z1 = 0.0;
-    let mut z2 = 0.0;
-    let mut z3 = 0.0;
-    let mut i = 0;
-    while i < n {
-        let w = weights[i];
-        let d = diameter[i];
-        let u = unit[i];
-        z0 = z0 + w * 1.0 * u;
-        z1 = z1 + w * d * u;
-        z2 = z2 + w * (d * d) * u;
-        z3 = z3 + w * (d * d * d) * u;
-        i += 1;
+    let mut zeta = D::from(0.0);
+    for i in 0..n {
+        zeta = zeta + weights[i] * diameter[i].powi(k) * unit[i];
     }
-    Zeta { z0, z1, z2, z3 }
+    zeta
 }
 
 // The vector sum.
-pub fn sum(n: usize, x: &[f64; 8]) -> f64
+pub fn sum<D: DualNum>(n: usize, x: &[D; 8]) -> D
     requires { n ≤ 8 }
-    ensures { result ≡ guarded.sum n (row x.now) }
+    ensures { result ≡ D.arithmetic.sum n (row D.arithmetic x.now) }
 {
-    let mut s = 0.0;
-    let mut i = 0;
-    while i < n {
-        s = s + x[i];
-        i += 1;
+    let mut sum = D::from(0.0);
+    for i in 0..n {
+        sum = sum + x[i];
     }
-    s
+    sum
 }
 
 // The term of Boublik and Mansoori et al., by the zeta of the fractions and the density.
-pub fn bmcsl(z: Zeta, density: f64) -> f64
-    ensures { result ≡ F.bmcsl guarded z.z0 z.z1 z.z2 z.z3 density }
+#[tactic(auto, unfolding(crate::specs::HardSphere::bmcsl))]
+pub fn bmcsl<D: DualNum>(z0: D, z1: D, z2: D, z3: D, density: D) -> D
+    ensures { result ≡ F.bmcsl D.arithmetic z0 z1 z2 z3 density }
 {
-    let zeta_23 = div(z.z2, z.z3);
-    let zeta0 = z.z0 * density;
-    let zeta1 = z.z1 * density;
-    let zeta2 = z.z2 * density;
-    let zeta3 = z.z3 * density;
-    let frac_1mz3 = -div(1.0, zeta3 - 1.0);
-    let a = zeta1 * zeta2 * frac_1mz3 * 3.0
-        + zeta2 * zeta2 * (frac_1mz3 * frac_1mz3) * zeta_23
-        + (zeta2 * (zeta_23 * zeta_23) - zeta0) * ln_1p(-zeta3);
-    div(a, FRAC_PI_6)
+    let zeta_23 = z2 / z3;
+    let zeta0 = z0 * density;
+    let zeta1 = z1 * density;
+    let zeta2 = z2 * density;
+    let zeta3 = z3 * density;
+    let frac_1mz3 = -(D::from(1.0) / (zeta3 - D::from(1.0)));
+    (zeta1 * zeta2 * frac_1mz3 * D::from(3.0)
+        + zeta2.powi(2) * frac_1mz3.powi(2) * zeta_23
+        + (zeta2 * zeta_23.powi(2) - zeta0) * (-zeta3).ln_1p())
+        / D::from(FRAC_PI_6)
 }
 
 // By the units, the diameters and the density.
-pub fn helmholtz_energy_density(
+#[tactic(auto, unfolding(crate::specs::HardSphere::helmholtz_energy_density))]
+pub fn helmholtz_energy_density<D: DualNum>(
     n: usize,
-    unit: &[f64; 8],
-    diameter: &[f64; 8],
-    s: State,
-    density: f64,
-) -> f64
-    requires { (n ≤ 8) × (density ≡ guarded.sum n (row s.partial_density)) }
-    ensures { result ≡ F.helmholtz_energy_density guarded n (row unit.now) (row diameter.now) (state guarded s) }
+    unit: &[D; 8],
+    diameter: &[D; 8],
+    s: &State<D>,
+    density: D,
+) -> D
+    requires { (n ≤ 8) × (density ≡ D.arithmetic.sum n (row D.arithmetic s.now.partial_density)) }
+    ensures { result ≡ F.helmholtz_energy_density D.arithmetic n (row D.arithmetic unit.now) (row D.arithmetic diameter.now) (state_of D.arithmetic s.now) }
 {
-    let x = s.molefracs;
-    bmcsl(weighted_zeta(n, unit, diameter, &x), density)
+    let z0 = weighted_zeta(n, unit, diameter, &s.molefracs, 0);
+    let z1 = weighted_zeta(n, unit, diameter, &s.molefracs, 1);
+    let z2 = weighted_zeta(n, unit, diameter, &s.molefracs, 2);
+    let z3 = weighted_zeta(n, unit, diameter, &s.molefracs, 3);
+    bmcsl(z0, z1, z2, z3, density)
 }

@@ -1,114 +1,88 @@
 // one_fluid_properties, which bh/attractive_perturbation.rs and wca/attractive_perturbation.rs have word for word, and the sums over pairs of the virial coefficients.
 ghost use Rattle.std.specs.Prelude.{◌≡◌, ◌≤◌};
-ghost use Rattle.arithmetic.specs.Doubles.{guarded};
-ghost use Rattle.uvtheory.specs.Rows.{row, matrix, fluid};
+ghost use Rattle.uvtheory.specs.Rows.{row, matrix};
 ghost use Rattle.uvtheory.specs.OneFluid as F;
 
 use crate::parameters::Combined;
-use elementary::exponential::powf;
-use operations::basic::{div, powi};
+use num_dual::dual_num::DualNum;
 
 // The Rust's six values, in its order.
 #[derive(Clone, Copy)]
-pub struct OneFluid {
-    pub rep: f64,
-    pub att: f64,
-    pub sigma: f64,
-    pub weighted_sigma3_ij: f64,
-    pub epsilon_k: f64,
-    pub d: f64,
+pub struct OneFluid<D> {
+    pub rep: D,
+    pub att: D,
+    pub sigma: D,
+    pub weighted_sigma3_ij: D,
+    pub epsilon_k: D,
+    pub d: D,
 }
 
 // The dot product with the cubes of a row.
-pub fn mean_cube(n: usize, x: &[f64; 8], s: &[f64; 8]) -> f64
+#[tactic(auto, unfolding(crate::specs::OneFluid::mean_cube))]
+pub fn mean_cube<D: DualNum>(n: usize, x: &[D; 8], s: &[D; 8]) -> D
     requires { n ≤ 8 }
-    ensures { result ≡ F.mean_cube guarded n (row x.now) (row s.now) }
+    ensures { result ≡ F.mean_cube D.arithmetic n (row D.arithmetic x.now) (row D.arithmetic s.now) }
 {
-    let mut sum = 0.0;
-    let mut i = 0;
-    while i < n {
-        let v = s[i];
-        sum = sum + x[i] * (v * v * v);
-        i += 1;
+    let mut sum = D::from(0.0);
+    for i in 0..n {
+        sum = sum + x[i] * s[i].powi(3);
     }
     sum
 }
 
-// x_i x_j f_ij, over all pairs.
-pub fn pair_mean(n: usize, x: &[f64; 8], f: &[f64; 64]) -> f64
+// x_i x_j f_ij^k, over all pairs.
+#[tactic(auto, unfolding(crate::specs::OneFluid::pair_mean))]
+pub fn pair_mean<D: DualNum>(n: usize, x: &[D; 8], f: &[D; 64], k: u64) -> D
     requires { n ≤ 8 }
-    ensures { result ≡ F.pair_mean guarded n (row x.now) (matrix n f.now) }
+    ensures { result ≡ F.pair_mean D.arithmetic n (row D.arithmetic x.now) (λ i j. D.arithmetic.powi (matrix D.arithmetic n f.now i j) k) }
 {
-    let mut sum = 0.0;
-    let mut k = 0;
-    while k < n * n {
-        sum = sum + x[k / n] * x[k % n] * f[k];
-        k += 1;
-    }
-    sum
-}
-
-// x_i x_j sigma_ij^3, over all pairs.
-pub fn weighted_sigma3(n: usize, x: &[f64; 8], sigma_ij: &[f64; 64]) -> f64
-    requires { n ≤ 8 }
-    ensures { result ≡ F.pair_mean guarded n (row x.now) (λ i j. guarded.powi (matrix n sigma_ij.now i j) 3) }
-{
-    let mut sum = 0.0;
-    let mut k = 0;
-    while k < n * n {
-        let s = sigma_ij[k];
-        sum = sum + x[k / n] * x[k % n] * (s * s * s);
-        k += 1;
+    let mut sum = D::from(0.0);
+    for ij in 0..n * n {
+        sum = sum + x[ij / n] * x[ij % n] * f[ij].powi(k);
     }
     sum
 }
 
 // x_i x_j sigma_ij^k f_ij, over all pairs.
-pub fn virial_sum(n: usize, x: &[f64; 8], sigma_ij: &[f64; 64], k: u64, f: &[f64; 64]) -> f64
+#[tactic(auto, unfolding(crate::specs::OneFluid::weighted_pairs))]
+pub fn virial_sum<D: DualNum>(n: usize, x: &[D; 8], sigma_ij: &[D; 64], k: u64, f: &[D; 64]) -> D
     requires { n ≤ 8 }
-    ensures { result ≡ F.virial_sum guarded n (row x.now) (matrix n sigma_ij.now) k (matrix n f.now) }
+    ensures { result ≡ F.virial_sum D.arithmetic n (row D.arithmetic x.now) (matrix D.arithmetic n sigma_ij.now) k (matrix D.arithmetic n f.now) }
 {
-    let mut sum = 0.0;
-    let mut ij = 0;
-    while ij < n * n {
-        sum = sum + x[ij / n] * x[ij % n] * powi(sigma_ij[ij], k) * f[ij];
-        ij += 1;
+    let mut sum = D::from(0.0);
+    for ij in 0..n * n {
+        sum = sum + x[ij / n] * x[ij % n] * sigma_ij[ij].powi(k) * f[ij];
     }
     sum
 }
 
 // The cube root of a mean of cubes.
-pub fn cube_root(v: f64) -> f64
-    ensures { result ≡ F.cube_root guarded v }
+#[tactic(auto, unfolding(crate::specs::OneFluid::cube_root))]
+pub fn cube_root<D: DualNum>(v: D) -> D
+    ensures { result ≡ F.cube_root D.arithmetic v }
 {
-    powf(v, div(1.0, 3.0))
+    v.powf(D::from(1.0) / D::from(3.0))
 }
 
-pub fn one_fluid_properties(
+pub fn one_fluid_properties<D: DualNum>(
     n: usize,
-    c: Combined,
-    sigma: &[f64; 8],
-    x: &[f64; 8],
-    d: &[f64; 8],
-) -> OneFluid
+    c: &Combined<D>,
+    sigma: &[D; 8],
+    x: &[D; 8],
+    d: &[D; 8],
+) -> OneFluid<D>
     requires { n ≤ 8 }
-    ensures { fluid result ≡ F.one_fluid_of guarded n (matrix n c.rep_ij) (matrix n c.att_ij) (matrix n c.sigma_ij) (matrix n c.eps_k_ij) (row sigma.now) (row x.now) (row d.now) }
+    ensures { result ≡ F.one_fluid_of D.arithmetic n (matrix D.arithmetic n c.now.rep_ij) (matrix D.arithmetic n c.now.att_ij) (matrix D.arithmetic n c.now.sigma_ij) (matrix D.arithmetic n c.now.eps_k_ij)
+        (row D.arithmetic sigma.now) (row D.arithmetic x.now) (row D.arithmetic d.now) }
 {
-    let rep_ij = c.rep_ij;
-    let att_ij = c.att_ij;
-    let sigma_ij = c.sigma_ij;
-    let eps_k_ij = c.eps_k_ij;
-    let weighted_sigma3_ij = weighted_sigma3(n, x, &sigma_ij);
+    let weighted_sigma3_ij = pair_mean(n, x, &c.sigma_ij, 3);
     let sigma_x = cube_root(mean_cube(n, x, sigma));
     OneFluid {
-        rep: pair_mean(n, x, &rep_ij),
-        att: pair_mean(n, x, &att_ij),
+        rep: pair_mean(n, x, &c.rep_ij, 1),
+        att: pair_mean(n, x, &c.att_ij, 1),
         sigma: sigma_x,
         weighted_sigma3_ij,
-        epsilon_k: div(
-            virial_sum(n, x, &sigma_ij, 3, &eps_k_ij),
-            weighted_sigma3_ij,
-        ),
-        d: div(cube_root(mean_cube(n, x, d)), sigma_x),
+        epsilon_k: virial_sum(n, x, &c.sigma_ij, 3, &c.eps_k_ij) / weighted_sigma3_ij,
+        d: cube_root(mean_cube(n, x, d)) / sigma_x,
     }
 }

@@ -1,14 +1,12 @@
 // uvtheory/parameters.rs: the parameters of a mixture, and `mie_prefactor`, `mean_field_constant` and `bh_coefficients`.
 ghost use Rattle.std.specs.Prelude.{◌≡◌, ◌<◌, ◌≤◌, [], ◌∷◌};
-ghost use Rattle.arithmetic.specs.Doubles.{guarded};
 ghost use Rattle.uvtheory.specs.Literals as N;
 ghost use Rattle.uvtheory.specs.Parameters as F;
-ghost use Rattle.uvtheory.specs.Rows.{row, place as place_of};
-ghost use Rattle.uvtheory.specs.Held.{PairOf, CombinedOf};
+ghost use Rattle.uvtheory.specs.Rows.{doubles, row, Matrix, place as place_of};
+ghost use Rattle.uvtheory.specs.Held.{CombinedOf};
 
-use elementary::exponential::powf;
-use operations::basic::div;
-use operations::root::sqrt;
+use crate::arrays::{constants, symmetric};
+use num_dual::dual_num::DualNum;
 
 // A mixture of n substances, 1 to 8, as sent. Only the first n of each row count, and of k_ij the first n(n-1)/2: i below j, row by row.
 #[derive(Clone, Copy)]
@@ -21,30 +19,21 @@ pub struct Mixture {
     pub k_ij: [f64; 28],
 }
 
-// feos_core's StateHD: temperature, and partial densities and mole fractions as separate fields, as sent.
+// feos_core's StateHD: temperature, and partial densities and mole fractions as separate fields.
 #[derive(Clone, Copy)]
-pub struct State {
-    pub temperature: f64,
-    pub partial_density: [f64; 8],
-    pub molefracs: [f64; 8],
+pub struct State<D> {
+    pub temperature: D,
+    pub partial_density: [D; 8],
+    pub molefracs: [D; 8],
 }
 
-// The combined values of a pair.
+// The combined values of all pairs: matrices of n rows of n values, row by row.
 #[derive(Clone, Copy)]
-pub struct Pair {
-    pub rep: f64,
-    pub att: f64,
-    pub sigma: f64,
-    pub epsilon_k: f64,
-}
-
-// Those of all pairs: matrices of n rows of n values, row by row.
-#[derive(Clone, Copy)]
-pub struct Combined {
-    pub rep_ij: [f64; 64],
-    pub att_ij: [f64; 64],
-    pub sigma_ij: [f64; 64],
-    pub eps_k_ij: [f64; 64],
+pub struct Combined<D> {
+    pub rep_ij: [D; 64],
+    pub att_ij: [D; 64],
+    pub sigma_ij: [D; 64],
+    pub eps_k_ij: [D; 64],
 }
 
 // Constants for BH temperature dependent HS diameter.
@@ -63,54 +52,58 @@ pub const CD_BH: [[f64; 3]; 4] = [
     ],
 ];
 
-pub fn mie_prefactor(rep: f64, att: f64) -> f64
-    ensures { result ≡ F.mie_prefactor guarded rep att }
+#[tactic(auto, unfolding(crate::specs::Parameters::mie_prefactor))]
+pub fn mie_prefactor<D: DualNum>(rep: D, att: D) -> D
+    ensures { result ≡ F.mie_prefactor D.arithmetic rep att }
 {
-    let d = rep - att;
-    div(rep, d) * powf(div(rep, att), div(att, d))
+    rep / (rep - att) * (rep / att).powf(att / (rep - att))
 }
 
 // The mean-field constant, by the prefactor c of rep and att.
-pub fn mean_field_of(c: f64, rep: f64, att: f64, x: f64) -> f64
-    ensures { result ≡ F.mean_field_of guarded c rep att x }
+#[tactic(auto, unfolding(crate::specs::Parameters::mean_field_of))]
+pub fn mean_field_of<D: DualNum>(c: D, rep: D, att: D, x: D) -> D
+    ensures { result ≡ F.mean_field_of D.arithmetic c rep att x }
 {
-    c * (div(powf(x, -att + 3.0), att - 3.0) - div(powf(x, -rep + 3.0), rep - 3.0))
+    let three = D::from(3.0);
+    c * (x.powf(-att + three) / (att - three) - x.powf(-rep + three) / (rep - three))
 }
 
-pub fn mean_field_constant(rep: f64, att: f64, x: f64) -> f64
-    ensures { result ≡ F.mean_field_constant guarded rep att x }
+pub fn mean_field_constant<D: DualNum>(rep: D, att: D, x: D) -> D
+    ensures { result ≡ F.mean_field_constant D.arithmetic rep att x }
 {
     mean_field_of(mie_prefactor(rep, att), rep, att, x)
 }
 
 // A row of CD_BH times (1, alpha, alpha^2).
-fn cd_bh_times(c: [f64; 3], alpha: f64) -> f64
-    ensures { result ≡ F.cd_bh_times guarded (row c) alpha }
+fn cd_bh_times<D: DualNum>(c: &[f64; 3], alpha: D) -> D
+    ensures { result ≡ F.cd_bh_times D.arithmetic (doubles c.now) alpha }
 {
-    c[0] * 1.0 + c[1] * alpha + c[2] * (alpha * alpha)
+    D::from(c[0]) * D::from(1.0) + D::from(c[1]) * alpha + D::from(c[2]) * (alpha * alpha)
 }
 
 // The reciprocal that every substance's alpha is taken from: of rep 7 and att 6.
-pub fn inv_a76() -> f64
-    ensures { result ≡ F.inv_a76 guarded N.six }
+pub fn inv_a76<D: DualNum>() -> D
+    ensures { result ≡ F.inv_a76 D.arithmetic (D.arithmetic.constant N.six) }
 {
-    div(1.0, mean_field_constant(7.0, 6.0, 1.0))
+    D::from(1.0) / mean_field_constant(D::from(7.0), D::from(6.0), D::from(1.0))
 }
 
 // The coefficients of a substance for att 6, whatever att was sent.
-pub fn bh_coefficients(rep: f64, inv_a76: f64) -> [f64; 5]
-    requires { inv_a76 ≡ F.inv_a76 guarded N.six }
-    ensures { result ≡ F.bh_coefficients guarded rep N.six 0 ∷ F.bh_coefficients guarded rep N.six 1 ∷ F.bh_coefficients guarded rep N.six 2 ∷ F.bh_coefficients guarded rep N.six 3 ∷ F.bh_coefficients guarded rep N.six 4 ∷ [] }
+#[tactic(auto, unfolding(crate::specs::Parameters::bh_coefficient))]
+pub fn bh_coefficients<D: DualNum>(rep: D, inv_a76: D) -> [D; 5]
+    requires { inv_a76 ≡ F.inv_a76 D.arithmetic (D.arithmetic.constant N.six) }
+    ensures { result ≡ F.bh_coefficients D.arithmetic rep (D.arithmetic.constant N.six) 0 ∷ F.bh_coefficients D.arithmetic rep (D.arithmetic.constant N.six) 1 ∷ F.bh_coefficients D.arithmetic rep (D.arithmetic.constant N.six) 2
+        ∷ F.bh_coefficients D.arithmetic rep (D.arithmetic.constant N.six) 3 ∷ F.bh_coefficients D.arithmetic rep (D.arithmetic.constant N.six) 4 ∷ [] }
 {
-    let k = CD_BH;
-    let c = mie_prefactor(rep, 6.0);
-    let alpha = div(1.0, mean_field_of(c, rep, 6.0, 1.0)) - inv_a76;
+    let six = D::from(6.0);
+    let c = mie_prefactor(rep, six);
+    let alpha = D::from(1.0) / mean_field_of(c, rep, six, D::from(1.0)) - inv_a76;
     [
-        div(-2.0 * rep, (6.0 - rep) * c),
-        cd_bh_times(k[0], alpha),
-        cd_bh_times(k[1], alpha),
-        cd_bh_times(k[2], alpha),
-        cd_bh_times(k[3], alpha),
+        D::from(-2.0) * rep / ((six - rep) * c),
+        cd_bh_times(&CD_BH[0], alpha),
+        cd_bh_times(&CD_BH[1], alpha),
+        cd_bh_times(&CD_BH[2], alpha),
+        cd_bh_times(&CD_BH[3], alpha),
     ]
 }
 
@@ -120,84 +113,4 @@ pub fn place(n: usize, i: usize, j: usize) -> usize
     ensures { (result ≡ place_of n i j) × (result < 28) }
 {
     i * (2 * n - i - 1) / 2 + (j - i - 1)
-}
-
-// Of i below j, by the rules.
-fn pair_of(m: Mixture, i: usize, j: usize) -> Pair
-    requires { (i < j) × (j < m.n) × (m.n ≤ 8) }
-    ensures { PairOf m i j result }
-{
-    let n = m.n;
-    let rep = m.rep;
-    let att = m.att;
-    let sigma = m.sigma;
-    let epsilon_k = m.epsilon_k;
-    let k_ij = m.k_ij;
-    let k = place(n, i, j);
-    Pair {
-        rep: sqrt(rep[i] * rep[j]),
-        att: sqrt(att[i] * att[j]),
-        sigma: 0.5 * (sigma[i] + sigma[j]),
-        epsilon_k: (1.0 - k_ij[k]) * sqrt(epsilon_k[i] * epsilon_k[j]),
-    }
-}
-
-// Of any pair: by the rules for i below j, what was worked for (j, i), or the substance itself.
-fn pair_at(m: Mixture, i: usize, j: usize, worked: Pair) -> Pair
-    requires i_lt_n { (i < m.n) × (j < m.n) × (m.n ≤ 8) }
-    requires pair_of { j < i → PairOf m j i worked }
-    ensures { PairOf m i j result }
-{
-    if i < j {
-        return pair_of(m, i, j);
-    }
-    if j < i {
-        return worked;
-    }
-    let rep = m.rep;
-    let att = m.att;
-    let sigma = m.sigma;
-    let epsilon_k = m.epsilon_k;
-    Pair {
-        rep: rep[i],
-        att: att[i],
-        sigma: sigma[i],
-        epsilon_k: epsilon_k[i],
-    }
-}
-
-// UVTheoryPars::new: each pair is worked once, for i below j, and copied.
-pub fn combine(m: Mixture) -> Combined
-    requires { m.n ≤ 8 }
-    ensures { CombinedOf m result }
-{
-    let n = m.n;
-    let mut rep_ij = [0.0; 64];
-    let mut att_ij = [0.0; 64];
-    let mut sigma_ij = [0.0; 64];
-    let mut eps_k_ij = [0.0; 64];
-    let mut k = 0;
-    while k < n * n {
-        let i = k / n;
-        let j = k % n;
-        let t = j * n + i;
-        let worked = Pair {
-            rep: rep_ij[t],
-            att: att_ij[t],
-            sigma: sigma_ij[t],
-            epsilon_k: eps_k_ij[t],
-        };
-        let p = pair_at(m, i, j, worked);
-        rep_ij[k] = p.rep;
-        att_ij[k] = p.att;
-        sigma_ij[k] = p.sigma;
-        eps_k_ij[k] = p.epsilon_k;
-        k += 1;
-    }
-    Combined {
-        rep_ij,
-        att_ij,
-        sigma_ij,
-        eps_k_ij,
-    }
 }

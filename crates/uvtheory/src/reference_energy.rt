@@ -1,13 +1,13 @@
 // The last line of the three reference perturbations: the energy by the sum a over all pairs and the density.
 ghost use Rattle.std.specs.Prelude.{◌≡◌};
-ghost use Rattle.arithmetic.specs.Doubles.{guarded};
 ghost use Rattle.uvtheory.specs.ReferenceEnergy as F;
 
 use crate::consts::PI;
-use operations::basic::div;
+use num_dual::dual_num::DualNum;
 
-pub fn energy(a: f64, density: f64) -> f64
-    ensures { result ≡ F.energy guarded a density }
+#[tactic(auto, unfolding(crate::specs::ReferenceEnergy::energy))]
+pub fn energy<D: DualNum>(a: D, density: D) -> D
+    ensures { result ≡ F.energy D.arithmetic a density }
 {
-    div(-a * (density * density) * 2.0, 3.0) * PI
+    -a * density.powi(2) * D::from(2.0) / D::from(3.0) * D::from(PI)
 }

@@ -4,7 +4,7 @@ use Rattle.std.specs.Prelude.{ℕ, ◌≡◌, List}
 use Rattle.dual.specs.declared.basic.Dual.{Dual}
 use Rattle.dual.specs.Rules.{guarded_slopes}
 use Rattle.uvtheory.specs.declared.parameters.Mixture.{Mixture}
-use Rattle.uvtheory.specs.Contributions.{Contributions}
+use Rattle.uvtheory.specs.declared.contributions.Contributions.{Contributions}
 use Rattle.uvtheory.specs.Held.{SymmetricOf}
 use Rattle.uvtheory.specs.Inputs.{parameters}
 use Rattle.uvtheory_dual.specs.declared.parameters.Pair.{Pair}

@@ -3,7 +3,7 @@
 use Rattle.std.specs.Prelude.{ℕ, List, Float}
 use Rattle.dual.specs.declared.basic.Dual.{Dual}
 use Rattle.dual.specs.Rules.{failed, guarded_slopes}
-use Rattle.uvtheory.specs.OneFluid.{OneFluid}
+use Rattle.uvtheory.specs.declared.one_fluid.OneFluid.{OneFluid}
 use Rattle.uvtheory.specs.Parameters.{State}
 use Rattle.uvtheory.specs.Rows as Arrays
 use Rattle.uvtheory_dual.specs.declared.parameters.State.{State as HeldState}

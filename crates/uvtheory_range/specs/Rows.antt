@@ -2,7 +2,7 @@
 use Rattle.std.specs.Prelude.{ℕ, List, Float}
 use Rattle.range.specs.declared.basic.Range.{Range}
 use Rattle.range.specs.Rules.{failed, ranges}
-use Rattle.uvtheory.specs.OneFluid.{OneFluid}
+use Rattle.uvtheory.specs.declared.one_fluid.OneFluid.{OneFluid}
 use Rattle.uvtheory.specs.Parameters.{State}
 use Rattle.uvtheory.specs.Rows as Arrays
 use Rattle.uvtheory_range.specs.declared.parameters.State.{State as HeldState}

@@ -6,7 +6,8 @@ use Rattle.uvtheory.specs.Literals.{one, two, three, four, five, six, eight, six
 use Rattle.uvtheory.specs.Tables.{C_BH, CU_BH, C2_BH}
 use Rattle.uvtheory.specs.Parameters.{UVTheoryPars, State, mie_prefactor, mean_field_constant}
 use Rattle.uvtheory.specs.Bh.HardSphere.{diameter_bh}
-use Rattle.uvtheory.specs.OneFluid.{OneFluid, one_fluid_properties, virial_sum, mean_cube}
+use Rattle.uvtheory.specs.declared.one_fluid.OneFluid.{OneFluid}
+use Rattle.uvtheory.specs.OneFluid.{one_fluid_properties, virial_sum, mean_cube}
 use Rattle.uvtheory.specs.BetaEff.{coefficient_2}
 
 module _ {Value : Type 0} (A : Arithmetic Value) where

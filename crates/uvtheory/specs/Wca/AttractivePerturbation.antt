@@ -5,7 +5,8 @@ use Rattle.arithmetic.specs.Sums.{recip}
 use Rattle.uvtheory.specs.Literals.{zero, one, two, three, five, y_exponent_a, y_exponent_b, PI}
 use Rattle.uvtheory.specs.Tables.{C_WCA, CU_WCA, C2_WCA}
 use Rattle.uvtheory.specs.Parameters.{UVTheoryPars, State, mie_prefactor, mean_field_of, mean_field_constant}
-use Rattle.uvtheory.specs.OneFluid.{OneFluid, one_fluid_properties, virial_sum, mean_cube}
+use Rattle.uvtheory.specs.declared.one_fluid.OneFluid.{OneFluid}
+use Rattle.uvtheory.specs.OneFluid.{one_fluid_properties, virial_sum, mean_cube}
 use Rattle.uvtheory.specs.BetaEff.{coefficient_2}
 use Rattle.uvtheory.specs.Wca.HardSphere.{rm_of, diameter_wca, dimensionless_diameter_q_wca}
 

@@ -7,7 +7,8 @@ use Rattle.uvtheory.specs.Literals as N
 use Rattle.uvtheory.specs.Tables.{C_WCA, C_B2_RSAP, K_LJ_B3, P_B3, L_B3, M_B3, CU_WCA_UVB3, WCA_CONSTANTS_ETA_A_UVB3, WCA_CONSTANTS_ETA_B_UVB3}
 use Rattle.uvtheory.specs.Factorials.{factorial, whole}
 use Rattle.uvtheory.specs.Parameters.{UVTheoryPars, State, mie_prefactor, mean_field_constant}
-use Rattle.uvtheory.specs.OneFluid.{OneFluid, one_fluid_properties, virial_sum, mean_cube}
+use Rattle.uvtheory.specs.declared.one_fluid.OneFluid.{OneFluid}
+use Rattle.uvtheory.specs.OneFluid.{one_fluid_properties, virial_sum, mean_cube}
 use Rattle.uvtheory.specs.PackingFraction.{coefficient_b}
 use Rattle.uvtheory.specs.Wca.HardSphere.{rm_of, diameter_wca, dimensionless_diameter_q_wca}
 use Rattle.uvtheory.specs.Wca.AttractivePerturbation.{delta_b12u, delta_a1u_of}

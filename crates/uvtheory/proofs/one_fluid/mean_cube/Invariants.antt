@@ -1,10 +1,7 @@
-use Rattle.std.proofs.Common.{◌≡◌, ◌-◌, ◌≤◌}
-use Rattle.arithmetic.specs.Doubles.{guarded}
-use Rattle.uvtheory.specs.Rows.{row}
+use Rattle.std.proofs.Common.{◌≡◌, ◌*◌, ◌/◌, ◌%◌, ◌≤◌}
+use Rattle.uvtheory.specs.Rows.{row, matrix}
+use Rattle.uvtheory.specs.OneFluid as F
 use Rattle.uvtheory.proofs.one_fluid.mean_cube.Given as goal
 
 abbrev pub invariant-loop-i : goal.invariant-loop-i
-invariant-loop-i l = (l.i ≤ l.n) × (l.sum ≡ guarded.sum l.i (λ j. guarded.mul (row l.x j) (guarded.powi (row l.s j) 3)))
-
-abbrev pub decreases-loop-i : goal.decreases-loop-i
-decreases-loop-i l = l.n - l.i
+invariant-loop-i g l = let A = g.D.DualNum.arithmetic in (l.i ≤ l.n) × (l.sum ≡ F.mean_cube A l.i (row A l.x) (row A l.s))

@@ -1,10 +1,6 @@
-use Rattle.std.proofs.Common.{◌≡◌, ◌-◌, ◌*◌, ◌/◌, ◌%◌, ◌≤◌}
-use Rattle.arithmetic.specs.Doubles.{guarded}
+use Rattle.std.proofs.Common.{◌≡◌, ◌*◌, ◌/◌, ◌%◌, ◌≤◌}
 use Rattle.uvtheory.specs.Rows.{row, matrix}
 use Rattle.uvtheory.proofs.one_fluid.pair_mean.Given as goal
 
-abbrev pub invariant-loop-k : goal.invariant-loop-k
-invariant-loop-k s = (s.k ≤ s.n * s.n) × (s.sum ≡ guarded.sum s.k (λ l. guarded.mul (guarded.mul (row s.x (l / s.n)) (row s.x (l % s.n))) (matrix s.n s.f (l / s.n) (l % s.n))))
-
-abbrev pub decreases-loop-k : goal.decreases-loop-k
-decreases-loop-k l = l.n * l.n - l.k
+abbrev pub invariant-loop-ij : goal.invariant-loop-ij
+invariant-loop-ij g l = let A = g.D.DualNum.arithmetic in (l.ij ≤ l.n * l.n) × (l.sum ≡ A.sum l.ij (λ k. A.mul (A.mul (row A l.x (k / l.n)) (row A l.x (k % l.n))) (A.powi (matrix A l.n l.f (k / l.n) (k % l.n)) l.k)))

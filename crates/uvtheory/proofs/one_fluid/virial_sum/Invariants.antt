@@ -1,10 +1,6 @@
-use Rattle.std.proofs.Common.{◌≡◌, ◌-◌, ◌*◌, ◌/◌, ◌%◌, ◌≤◌}
-use Rattle.arithmetic.specs.Doubles.{guarded}
+use Rattle.std.proofs.Common.{◌≡◌, ◌*◌, ◌/◌, ◌%◌, ◌≤◌}
 use Rattle.uvtheory.specs.Rows.{row, matrix}
 use Rattle.uvtheory.proofs.one_fluid.virial_sum.Given as goal
 
 abbrev pub invariant-loop-ij : goal.invariant-loop-ij
-invariant-loop-ij s = (s.ij ≤ s.n * s.n) × (s.sum ≡ guarded.sum s.ij (λ l. guarded.mul (guarded.mul (guarded.mul (row s.x (l / s.n)) (row s.x (l % s.n))) (guarded.powi (matrix s.n s.sigma_ij (l / s.n) (l % s.n)) s.k)) (matrix s.n s.f (l / s.n) (l % s.n))))
-
-abbrev pub decreases-loop-ij : goal.decreases-loop-ij
-decreases-loop-ij l = l.n * l.n - l.ij
+invariant-loop-ij g l = let A = g.D.DualNum.arithmetic in (l.ij ≤ l.n * l.n) × (l.sum ≡ A.sum l.ij (λ k. A.mul (A.mul (A.mul (row A l.x (k / l.n)) (row A l.x (k % l.n))) (A.powi (matrix A l.n l.sigma_ij (k / l.n) (k % l.n)) l.k)) (matrix A l.n l.f (k / l.n) (k % l.n))))

@@ -1,14 +1,12 @@
 -- The sums over arrays that hold the formulas' values are the formulas' sums.
 use Rattle.std.proofs.Common.{◌≡◌, ℕ, ◌*◌, ◌/◌, ◌%◌, ◌<◌, ◌≤◌, List, get_or, replicate, refl, ap, ◌∙◌, ap₂, arith}
 use lib.ListN.{get_or-replicate}
-use lib.Ieee.{Float, nan}
 use Rattle.arithmetic.specs.Arithmetic.{Arithmetic}
-use Rattle.arithmetic.specs.Doubles.{guarded}
 use Rattle.uvtheory.specs.declared.parameters.Mixture.{Mixture}
 use Rattle.uvtheory.specs.declared.parameters.Combined.{Combined}
 use Rattle.uvtheory.specs.Literals.{FRAC_PI_6}
 use Rattle.uvtheory.specs.Parameters.{State}
-use Rattle.uvtheory.specs.Rows.{row_of, matrix_of, RowOf, MatrixOf, row, matrix, Row, Matrix}
+use Rattle.uvtheory.specs.Rows.{row_of, matrix_of, RowOf, MatrixOf, missing, row, matrix, Row, Matrix}
 use Rattle.uvtheory.specs.Inputs.{parameters}
 use Rattle.uvtheory.specs.Held.{CombinedOf}
 use Rattle.uvtheory.specs.OneFluid as O
@@ -75,26 +73,27 @@ module _ {Value : Type 0} (A : Arithmetic Value) (adds : Adds A) where
         let eps = virial_sum_of sigmas sigma_ij sigma_are 3 epss eps_k_ij epsilon_are in
         rw (rep, att, cubes, eps, mean_cube_of none n x ds d d_are)
 
--- ---- the combined values of doubles
-module _ (m : Mixture) (c : Combined) (held : CombinedOf m c) where
+-- ---- the combined values
+module _ {Value : Type 0} (A : Arithmetic Value) (m : Mixture) (c : Combined Value) (held : CombinedOf A m c) where
   module _ (k : ℕ) (l : k < m.n * m.n) where
-    pub rep_at : matrix m.n c.rep_ij (k / m.n) (k % m.n) ≡ (parameters guarded m).rep_ij (k / m.n) (k % m.n)
-    rep_at = matrix_at nan m.n c.rep_ij (parameters guarded m).rep_ij held.rep_are k l
+    pub rep_at : matrix A m.n c.rep_ij (k / m.n) (k % m.n) ≡ (parameters A m).rep_ij (k / m.n) (k % m.n)
+    rep_at = matrix_at (missing A) m.n c.rep_ij (parameters A m).rep_ij held.rep_are k l
 
-    pub att_at : matrix m.n c.att_ij (k / m.n) (k % m.n) ≡ (parameters guarded m).att_ij (k / m.n) (k % m.n)
-    att_at = matrix_at nan m.n c.att_ij (parameters guarded m).att_ij held.att_are k l
+    pub att_at : matrix A m.n c.att_ij (k / m.n) (k % m.n) ≡ (parameters A m).att_ij (k / m.n) (k % m.n)
+    att_at = matrix_at (missing A) m.n c.att_ij (parameters A m).att_ij held.att_are k l
 
-    pub sigma_at : matrix m.n c.sigma_ij (k / m.n) (k % m.n) ≡ (parameters guarded m).sigma_ij (k / m.n) (k % m.n)
-    sigma_at = matrix_at nan m.n c.sigma_ij (parameters guarded m).sigma_ij held.sigma_are k l
+    pub sigma_at : matrix A m.n c.sigma_ij (k / m.n) (k % m.n) ≡ (parameters A m).sigma_ij (k / m.n) (k % m.n)
+    sigma_at = matrix_at (missing A) m.n c.sigma_ij (parameters A m).sigma_ij held.sigma_are k l
 
-    pub epsilon_at : matrix m.n c.eps_k_ij (k / m.n) (k % m.n) ≡ (parameters guarded m).eps_k_ij (k / m.n) (k % m.n)
-    epsilon_at = matrix_at nan m.n c.eps_k_ij (parameters guarded m).eps_k_ij held.epsilon_are k l
+    pub epsilon_at : matrix A m.n c.eps_k_ij (k / m.n) (k % m.n) ≡ (parameters A m).eps_k_ij (k / m.n) (k % m.n)
+    epsilon_at = matrix_at (missing A) m.n c.eps_k_ij (parameters A m).eps_k_ij held.epsilon_are k l
 
-  module _ (x : ℕ → Float) where
-    pub virial_sum_held : (e : ℕ) (xs : List Float) (f : ℕ → ℕ → Float) → Matrix m.n xs f → O.virial_sum guarded m.n x (matrix m.n c.sigma_ij) e (matrix m.n xs) ≡ O.virial_sum guarded m.n x (parameters guarded m).sigma_ij e f
-    virial_sum_held = virial_sum_of guarded (λ n f. refl) nan m.n x c.sigma_ij (parameters guarded m).sigma_ij held.sigma_are
+  module _ (left : Adds A) (x : ℕ → Value) where
+    pub virial_sum_held : (e : ℕ) (xs : List Value) (f : ℕ → ℕ → Value) → Matrix A m.n xs f → O.virial_sum A m.n x (matrix A m.n c.sigma_ij) e (matrix A m.n xs) ≡ O.virial_sum A m.n x (parameters A m).sigma_ij e f
+    virial_sum_held = virial_sum_of A left (missing A) m.n x c.sigma_ij (parameters A m).sigma_ij held.sigma_are
 
-    pub one_fluid_held : (ds : List Float) (d : ℕ → Float) → Row m.n ds d → O.one_fluid_of guarded m.n (matrix m.n c.rep_ij) (matrix m.n c.att_ij) (matrix m.n c.sigma_ij) (matrix m.n c.eps_k_ij) (row m.sigma) x (row ds) ≡ O.one_fluid_properties guarded (parameters guarded m) x d
+    pub one_fluid_held : (ds : List Value) (d : ℕ → Value) → Row A m.n ds d
+        → O.one_fluid_of A m.n (matrix A m.n c.rep_ij) (matrix A m.n c.att_ij) (matrix A m.n c.sigma_ij) (matrix A m.n c.eps_k_ij) (parameters A m).sigma x (row A ds) ≡ O.one_fluid_properties A (parameters A m) x d
     one_fluid_held ds d =
-        let p = parameters guarded m in
-        one_fluid_is guarded (λ n f. refl) nan m.n x c.rep_ij c.att_ij c.sigma_ij c.eps_k_ij ds p.rep_ij p.att_ij p.sigma_ij p.eps_k_ij (row m.sigma) d held.rep_are held.att_are held.sigma_are held.epsilon_are
+        let p = parameters A m in
+        one_fluid_is A left (missing A) m.n x c.rep_ij c.att_ij c.sigma_ij c.eps_k_ij ds p.rep_ij p.att_ij p.sigma_ij p.eps_k_ij p.sigma d held.rep_are held.att_are held.sigma_are held.epsilon_are
