@@ -1,7 +1,10 @@
 // The test of what is finite, the guarded quotient, and the power by a whole number.
 ghost use Rattle.std.specs.Prelude.{◌≡◌};
 ghost use Rattle.std.specs.Float.Ieee.Scale.{finite};
+ghost use Rattle.arithmetic.specs.Arithmetic.{power_by};
 ghost use Rattle.arithmetic.specs.Doubles.{guarded};
+
+use std::ops::Mul;
 
 // Whether x is neither NaN nor an infinity.
 pub fn is_finite(x: f64) -> bool
@@ -20,18 +23,25 @@ pub fn div(a: f64, b: f64) -> f64
     0.0 / 0.0
 }
 
-// v * v * .. from the left, k factors; with none it is 1.
+// v * v * .. from the left, k factors; with none it is one. Where a product is `times`, it is the power of document 01.
+#[tactic(auto, unfolding(arithmetic::specs::Arithmetic::power_by), using(crate::proofs::Power::one_more))]
+pub fn power<V: Copy + Mul<Output = V>>(one: V, v: V, k: u64) -> V
+    requires { (a b : V) → V.can_mul a b }
+    ensures { (times : V → V → V) → ((a b r : V) → V.mul_gives a b r → r ≡ times a b) → result ≡ power_by one times v k }
+{
+    if k == 0 {
+        return one;
+    }
+    let mut r = v;
+    for i in 1..k {
+        r = r * v;
+    }
+    r
+}
+
+// The power of a double; with no factor it is 1.
 pub fn powi(v: f64, k: u64) -> f64
     ensures { result ≡ guarded.powi v k }
 {
-    if k == 0 {
-        return 1.0;
-    }
-    let mut r = v;
-    let mut i: u64 = 1;
-    while i < k {
-        r = r * v;
-        i += 1;
-    }
-    r
+    power(1.0, v, k)
 }

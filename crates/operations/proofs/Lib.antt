@@ -1,0 +1,2 @@
+-- The power.
+pub mod Power
