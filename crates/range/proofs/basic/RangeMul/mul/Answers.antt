@@ -1,12 +1,9 @@
 -- Above zero by its law, else as any.
-use mathlib.Core.Path.{sym, subst, ◌∙◌}
+use mathlib.Core.Path.{sym, ◌∙◌}
 use Rattle.std.proofs.Common.{rules}
-use Rattle.std.specs.Prelude.{◌≡◌, T, Bool, true}
+use Rattle.std.proofs.lemmas.Float.{T_from_true}
 use Rattle.range.proofs.Positive.{Factors, uppers_finite, product_in_order, positive_product}
-use Rattle.range.proofs.basic.Range.mul.Goals as goal
-
-so : {b : Bool} → b ≡ true → T b
-so e = subst T (sym e) tt
+use Rattle.range.proofs.basic.RangeMul.mul.Goals as goal
 
 pub neighbours-requires : goal.neighbours-requires
 neighbours-requires c =
@@ -16,8 +13,8 @@ neighbours-requires c =
       positive_r = sym c.is_positive.ensures ∙ c.if-is_positive.true;
       positive_s = sym c.is_positive-then-is_positive.ensures ∙ c.if-is_positive-2.true;
     } in
-    let finite = uppers_finite _ _ t (so c.if-u.true) in
-    (so c.if-l.true, product_in_order _ _ t finite.0 finite.1, so c.if-u.true)
+    let finite = uppers_finite _ _ t (T_from_true _ c.if-u.true) in
+    (T_from_true _ c.if-l.true, product_in_order _ _ t finite.0 finite.1, T_from_true _ c.if-u.true)
 
 pub returns-then-u : goal.returns-then-u
 returns-then-u c =
@@ -27,8 +24,5 @@ returns-then-u c =
       positive_r = sym c.is_positive.ensures ∙ c.if-is_positive.true;
       positive_s = sym c.is_positive-then-is_positive.ensures ∙ c.if-is_positive-2.true;
     } in
-    let finite = uppers_finite _ _ t (so c.if-u.true) in
+    let finite = uppers_finite _ _ t (T_from_true _ c.if-u.true) in
     c.neighbours.ensures ∙ sym (positive_product _ _ t finite.0 finite.1)
-
-pub returns : goal.returns
-returns c = c.product_of-product.ensures
