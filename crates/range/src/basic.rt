@@ -1,8 +1,8 @@
 // The struct of two ends, and the rules of negation, sum, difference, product, quotient, power, root and the case at a threshold.
-ghost use Rattle.std.specs.Prelude.{◌≡◌, T, cond};
+ghost use Rattle.std.specs.Prelude.{◌≡◌, T, cond, Float};
 ghost use Rattle.std.specs.Float.Ieee as Ieee;
 ghost use Rattle.std.specs.Float.{binary64};
-ghost use Rattle.std.specs.Float.Ieee.{lt, le};
+ghost use Rattle.std.specs.Float.Ieee.{lt, le, fits};
 ghost use Rattle.std.specs.Float.Ieee.Scale.{finite};
 ghost use Rattle.arithmetic.specs.Basic.{above};
 ghost use Rattle.arithmetic.specs.Constants.{largest, zero_d};
@@ -324,7 +324,7 @@ impl Div for Range {
         if self.is_zero() {
             return Range::ZERO;
         }
-        quotients(self, other)
+        four(|a, b| a / b, self, other)
     }
 }
 
@@ -381,7 +381,7 @@ pub fn product_of(rl: f64, ru: f64, sl: f64, su: f64) -> Range
     if s.is_zero() {
         return Range::ZERO;
     }
-    products(r, s)
+    four(|a, b| a * b, r, s)
 }
 
 // One case for both ends: a where both have it, b where neither has.
@@ -410,28 +410,16 @@ fn outermost(a: f64, b: f64, c: f64, d: f64) -> Range
     )
 }
 
-// The range of the four products of ends.
+// The range of the four results at ends of r and of s.
 #[tactic(auto, unfolding(crate::specs::Rules::four))]
-fn products(r: Range, s: Range) -> Range
-    ensures { result ≡ Rules.four (Ieee.mul binary64) r s }
+fn four<F: Fn(f64, f64) -> f64>(op: F, r: Range, s: Range) -> Range
+    requires { F.IsAlwaysCallable op }
+    ensures { (o : Float → Float → Float) → ((a b c : Float) → T (fits binary64 a) → T (fits binary64 b) → F.post op a b c → c ≡ o a b) → result ≡ Rules.four o r s }
 {
     outermost(
-        r.lower * s.lower,
-        r.lower * s.upper,
-        r.upper * s.lower,
-        r.upper * s.upper,
-    )
-}
-
-// The range of the four quotients of ends.
-#[tactic(auto, unfolding(crate::specs::Rules::four))]
-fn quotients(r: Range, s: Range) -> Range
-    ensures { result ≡ Rules.four (Ieee.div binary64) r s }
-{
-    outermost(
-        r.lower / s.lower,
-        r.lower / s.upper,
-        r.upper / s.lower,
-        r.upper / s.upper,
+        op(r.lower, s.lower),
+        op(r.lower, s.upper),
+        op(r.upper, s.lower),
+        op(r.upper, s.upper),
     )
 }
