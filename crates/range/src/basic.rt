@@ -2,7 +2,7 @@
 ghost use Rattle.std.specs.Prelude.{◌≡◌, T, cond, Float};
 ghost use Rattle.std.specs.Float.Ieee as Ieee;
 ghost use Rattle.std.specs.Float.{binary64};
-ghost use Rattle.std.specs.Float.Ieee.{lt, le, fits};
+ghost use Rattle.std.specs.Float.Ieee.{lt, le};
 ghost use Rattle.std.specs.Float.Ieee.Scale.{finite};
 ghost use Rattle.arithmetic.specs.Basic.{above};
 ghost use Rattle.arithmetic.specs.Constants.{largest, zero_d};
@@ -414,7 +414,7 @@ fn outermost(a: f64, b: f64, c: f64, d: f64) -> Range
 #[tactic(auto, unfolding(crate::specs::Rules::four))]
 fn four<F: Fn(f64, f64) -> f64>(op: F, r: Range, s: Range) -> Range
     requires { F.IsAlwaysCallable op }
-    ensures { (o : Float → Float → Float) → ((a b c : Float) → T (fits binary64 a) → T (fits binary64 b) → F.post op a b c → c ≡ o a b) → result ≡ Rules.four o r s }
+    ensures { (o : Float → Float → Float) → ((a b c : Float) → F.post op a b c → c ≡ o a b) → result ≡ Rules.four o r s }
 {
     outermost(
         op(r.lower, s.lower),
