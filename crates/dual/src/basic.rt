@@ -1,11 +1,10 @@
 // The struct of a value and its slope, and the rules of negation, sum, difference, product, quotient, power, root and the case at a threshold.
 ghost use Rattle.std.specs.Prelude.{◌≡◌, T};
 ghost use Rattle.std.specs.Float.Ieee.Scale.{finite};
-ghost use Rattle.arithmetic.specs.Doubles.{where_finite};
 ghost use Rattle.dual.specs.Rules as Rules;
 ghost use Rattle.dual.specs.Rules.{guarded_slopes};
 
-use operations::basic::{div, is_finite, power};
+use operations::basic::{div, is_finite, power, where_finite};
 use operations::root::sqrt;
 use std::ops::{Add, Div, Mul, Neg, Sub};
 
@@ -26,14 +25,6 @@ pub fn failed() -> Dual
         value: nan,
         slope: nan,
     }
-}
-
-// y where x is finite.
-#[tactic(auto, using(arithmetic::proofs::Tests::zero_by_zero))]
-pub fn where_finite(x: f64, y: f64) -> f64
-    ensures { result ≡ where_finite x y }
-{
-    if is_finite(x) { y } else { 0.0 / 0.0 }
 }
 
 impl Dual {

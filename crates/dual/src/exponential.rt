@@ -2,8 +2,9 @@
 ghost use Rattle.std.specs.Prelude.{◌≡◌};
 ghost use Rattle.dual.specs.Rules.{guarded_slopes};
 
-use crate::basic::{Dual, failed, where_finite};
+use crate::basic::{Dual, failed};
 use crate::logarithm::ln;
+use operations::basic::where_finite;
 
 // e^v. Below -700 it is a constant: a slope of v that is not finite is kept there.
 #[tactic(auto, unfolding(crate::specs::Rules::exp))]

@@ -1,2 +1,0 @@
--- The power.
-pub mod Power
