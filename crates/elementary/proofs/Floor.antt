@@ -14,15 +14,13 @@ use Rattle.arithmetic.proofs.Fraction.{≼_trans, ≺-≼-trans, ≼-≺-trans, 
 use Rattle.arithmetic.proofs.Value.{≼→le, ≺→lt, lt→≺}
 use Rattle.arithmetic.proofs.Cases.{In, floor_is, floor_in}
 use Rattle.arithmetic.proofs.Exact.{whole_exact}
+use Rattle.elementary.specs.Exponents.{Normal}
 
 -- from -1022, and below 1024
 abbrev pub Bounded : Float → Type 0
 Bounded x = T (finite x) × (whole (negsuc 1021) ≼ value x) × (value x ≺ whole (pos 1024))
 
 -- the exponent of a normal double
-abbrev pub Normal : ℤ → Type 0
-Normal k = T (le_z (negsuc 1021) k) × T (le_z k (pos 1023))
-
 pub floor_normal : (q : Fraction) → whole (negsuc 1021) ≼ q → q ≺ whole (pos 1024) → Normal (floor_of q)
 floor_normal q l h = go (floor_of q) (floor_in q)
   where
