@@ -29,6 +29,7 @@ fn scale_end<F: Fn(f64) -> f64>(x: f64, t: f64, outwards: F) -> f64
 }
 
 // The range times 2^k, for the exponent of a normal double.
+#[tactic(auto, unfolding(range::specs::Rules::scale, range::specs::Rules::kept))]
 fn scale(r: Range, k: i64) -> Range
     requires { Normal k }
     ensures { result ≡ rules.scale r k }
@@ -44,7 +45,7 @@ fn scale(r: Range, k: i64) -> Range
 }
 
 // exp of v, by its k.
-#[tactic(auto, unfolding(arithmetic::specs::Recipes::exp_of))]
+#[tactic(auto, unfolding(arithmetic::specs::Recipes::exp_of), using(range::proofs::Constants::whole_is, elementary::proofs::Floor::normal_float))]
 fn exp_of(v: Range, k: i64) -> Range
     requires { Normal k }
     ensures { result ≡ R.exp_of rules v k }
@@ -120,7 +121,7 @@ pub fn exp(v: Range) -> Range
 
 // v^b, as exp(b * ln v). A base of 0 gives 0 where b is above 0.
 // A moderate power of [1, 1] is known, and is not worked: its logarithm has ends on either side of 0, for which no shorter way serves, and subnormal ones.
-#[tactic(auto, unfolding(arithmetic::specs::Recipes::powf))]
+#[tactic(auto, unfolding(arithmetic::specs::Recipes::powf), using(range::proofs::Constants::zero_constant))]
 pub fn powf(v: Range, b: Range) -> Range
     ensures { result ≡ ranges.powf v b }
 {
@@ -134,7 +135,7 @@ pub fn powf(v: Range, b: Range) -> Range
     v.if_above(0.0, exp(b * ln(v)), other)
 }
 
-#[tactic(auto, unfolding(arithmetic::specs::Recipes::tanh))]
+#[tactic(auto, unfolding(arithmetic::specs::Recipes::tanh), using(range::proofs::Constants::one_constant))]
 pub fn tanh(v: Range) -> Range
     ensures { result ≡ ranges.tanh v }
 {

@@ -10,19 +10,3 @@ if_below-lower-requires c = tt
 pub if_above-requires : goal.if_above-requires
 unfolding of_bits neg
 if_above-requires c = tt
-
-pub returns : goal.returns
-unfolding R.tanh
-returns c =
-    rw (
-      c.if_above.ensures,
-      c.if_below-lower.ensures,
-      c.from.ensures,
-      c.sub-inner.ensures,
-      c.div.ensures,
-      c.add.ensures,
-      c.exp.ensures,
-      c.mul.ensures,
-      c.from-two.ensures,
-      one_constant,
-    )
