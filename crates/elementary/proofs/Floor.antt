@@ -2,7 +2,6 @@
 use Rattle.std.proofs.Common.{◌≡◌, ℕ, zero, suc, ◌-◌, ◌*◌, ◌/◌, ◌^◌, ◌<◌, ◌≤◌, min, Bool, true, false, cond, T, ℤ, pos, negsuc, neg_ℤ, sym, ◌∙◌, subst, inl, inr, le_trans, div-lt_iff_lt-mul, div-mul-le_self, le_of_mul-le-mul_right, arith, le→leb, lt→ltb, leb→le, w64, SFits}
 use mathlib.Core.Bool.{false≢true}
 use lib.IntN.{suc_ℤ, pred_ℤ, suc-pred}
-use lib.Signed.{le_z}
 use lib.Ieee.Bits.{is_true}
 use lib.Ieee.{Float, nan, inf, fin, binary64, up, down, lt, le, of_int, to_signed, in_float}
 use lib.Ieee.Fits.{down_pos}

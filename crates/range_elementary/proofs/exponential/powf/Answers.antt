@@ -1,9 +1,6 @@
 -- A moderate power of [1, 1] by its law, else as the recipe has it.
 use mathlib.Core.Path.{sym, subst, ◌∙◌}
 use lib.Dec.{T}
-use lib.Ieee.{of_bits, neg}
-use Rattle.arithmetic.specs.Recipes as R
-use Rattle.range.proofs.Constants.{zero_constant}
 use Rattle.range_elementary.proofs.PowerOfOne.{tested_power}
 use Rattle.range_elementary.proofs.exponential.powf.Goals as goal
 

@@ -1,6 +1,4 @@
-use Rattle.arithmetic.specs.Recipes as R
 use lib.Ieee.{of_bits, neg}
-use Rattle.range.proofs.Constants.{one_constant}
 use Rattle.range_elementary.proofs.logarithm.ln_1p.Goals as goal
 
 pub if_above-below-requires : goal.if_above-below-requires
