@@ -107,6 +107,7 @@ pub fn powf(v: f64, b: f64) -> f64
     0.0 / 0.0
 }
 
+#[tactic(auto, using(crate::proofs::Cases::tanh_by_cases, crate::proofs::Cases::tanh_not_finite, arithmetic::proofs::Tests::zero_by_zero))]
 pub fn tanh(v: f64) -> f64
     ensures { result ≡ guarded.tanh v }
 {

@@ -92,6 +92,7 @@ pub fn ln(v: f64) -> f64
 }
 
 // The natural logarithm of 1 + v, v above -1.
+#[tactic(auto, using(crate::proofs::Cases::ln1p_by_cases, crate::proofs::Cases::ln1p_not_finite, arithmetic::proofs::Tests::zero_by_zero))]
 pub fn ln_1p(v: f64) -> f64
     ensures { result ≡ guarded.ln1p v }
 {
