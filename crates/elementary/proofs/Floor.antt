@@ -2,7 +2,6 @@
 use Rattle.std.proofs.Common.{◌≡◌, ℕ, zero, suc, ◌-◌, ◌*◌, ◌/◌, ◌^◌, ◌<◌, ◌≤◌, min, Bool, true, false, cond, T, ℤ, pos, negsuc, neg_ℤ, sym, ◌∙◌, subst, inl, inr, le_trans, div-lt_iff_lt-mul, div-mul-le_self, le_of_mul-le-mul_right, arith, le→leb, lt→ltb, leb→le, w64, SFits}
 use mathlib.Core.Bool.{false≢true}
 use lib.IntN.{suc_ℤ, pred_ℤ, suc-pred}
-use lib.Signed.{le_z}
 use lib.Ieee.Bits.{is_true}
 use lib.Ieee.{Float, nan, inf, fin, binary64, up, down, lt, le, of_int, to_signed, in_float}
 use lib.Ieee.Fits.{down_pos}
@@ -14,15 +13,13 @@ use Rattle.arithmetic.proofs.Fraction.{≼_trans, ≺-≼-trans, ≼-≺-trans, 
 use Rattle.arithmetic.proofs.Value.{≼→le, ≺→lt, lt→≺}
 use Rattle.arithmetic.proofs.Cases.{In, floor_is, floor_in}
 use Rattle.arithmetic.proofs.Exact.{whole_exact}
+use Rattle.elementary.specs.Exponents.{Normal}
 
 -- from -1022, and below 1024
 abbrev pub Bounded : Float → Type 0
 Bounded x = T (finite x) × (whole (negsuc 1021) ≼ value x) × (value x ≺ whole (pos 1024))
 
 -- the exponent of a normal double
-abbrev pub Normal : ℤ → Type 0
-Normal k = T (le_z (negsuc 1021) k) × T (le_z k (pos 1023))
-
 pub floor_normal : (q : Fraction) → whole (negsuc 1021) ≼ q → q ≺ whole (pos 1024) → Normal (floor_of q)
 floor_normal q l h = go (floor_of q) (floor_in q)
   where

@@ -4,3 +4,4 @@ pub mod Place
 pub mod PowerOfTwo
 pub mod Reduction
 pub mod Words
+pub mod Cases

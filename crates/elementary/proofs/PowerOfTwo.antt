@@ -7,7 +7,7 @@ use lib.Ieee.Bits.{nan_bits_above, of_bits-fits}
 use lib.Ieee.Fits.{and_i}
 use lib.Ieee.Exact.{HasValue}
 use Rattle.arithmetic.proofs.Exact.{same_value, normal_value}
-use Rattle.elementary.proofs.Floor.{Normal}
+use Rattle.elementary.specs.Exponents.{Normal}
 
 pub not_nan_bits : (b : ℕ) → b < 0x7ff0_0000_0000_0000 → T (not (nan_bits binary64 b))
 not_nan_bits b h =

@@ -7,6 +7,7 @@ ghost use Rattle.arithmetic.specs.Value.{value};
 ghost use Rattle.arithmetic.specs.Cases.{floor_of};
 ghost use Rattle.arithmetic.specs.Recipes as R;
 ghost use Rattle.arithmetic.specs.Doubles.{plain, guarded};
+ghost use Rattle.elementary.specs.Exponents.{Normal};
 
 use crate::logarithm::ln;
 use crate::series::horner;
@@ -48,7 +49,7 @@ pub fn floor(x: f64) -> i64
 
 // 2^k, for the exponent of a normal double.
 pub fn power_of_two(k: i64) -> f64
-    requires { T (int_le (negsuc 1021) k) × T (int_le k (pos 1023)) }
+    requires { Normal k }
     ensures { result ≡ fin false 1 k }
 {
     f64::from_bits((k + 1023) as u64 * 0x10_0000_0000_0000)
@@ -63,7 +64,7 @@ fn polynomial(r: f64) -> f64
 
 // exp of v, by its k.
 fn exp_of(v: f64, k: i64) -> f64
-    requires { T (int_le (negsuc 1021) k) × T (int_le k (pos 1023)) }
+    requires { Normal k }
     ensures { result ≡ R.exp_of plain v k }
 {
     let w = k as f64;
@@ -106,6 +107,7 @@ pub fn powf(v: f64, b: f64) -> f64
     0.0 / 0.0
 }
 
+#[tactic(auto, using(crate::proofs::Cases::tanh_by_cases, crate::proofs::Cases::tanh_not_finite, arithmetic::proofs::Tests::zero_by_zero))]
 pub fn tanh(v: f64) -> f64
     ensures { result ≡ guarded.tanh v }
 {

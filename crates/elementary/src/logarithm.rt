@@ -8,6 +8,7 @@ ghost use Rattle.arithmetic.specs.Value.{value};
 ghost use Rattle.arithmetic.specs.Cases.{exponent_of};
 ghost use Rattle.arithmetic.specs.Recipes as R;
 ghost use Rattle.arithmetic.specs.Doubles.{plain, guarded, scaled};
+ghost use Rattle.operations.specs.Patterns.{Positive};
 
 use crate::series::horner;
 use operations::basic::{div, is_finite};
@@ -50,7 +51,7 @@ pub struct Reduced {
 
 // The m and the e of a positive finite double, by its pattern. Nothing is rounded.
 pub fn split(b: u64) -> Reduced
-    requires { (0 < b) × (b < 0x7ff0_0000_0000_0000) }
+    requires { Positive b }
     ensures { (exponent_of (value (from_bits binary64 b)) ≡ some result.e) × (scaled (from_bits binary64 b) (neg_ℤ result.e) ≡ result.m) × T (in_float binary64 result.e)
         × (value result.m ≼ value (from_bits binary64 b) ⊗ value (fin false 1 (neg_ℤ result.e))) × (value (from_bits binary64 b) ⊗ value (fin false 1 (neg_ℤ result.e)) ≼ value result.m) }
 {
@@ -91,6 +92,7 @@ pub fn ln(v: f64) -> f64
 }
 
 // The natural logarithm of 1 + v, v above -1.
+#[tactic(auto, using(crate::proofs::Cases::ln1p_by_cases, crate::proofs::Cases::ln1p_not_finite, arithmetic::proofs::Tests::zero_by_zero))]
 pub fn ln_1p(v: f64) -> f64
     ensures { result ≡ guarded.ln1p v }
 {

@@ -3,4 +3,5 @@
 
 pub mod duals;
 pub mod functions;
+pub mod numbers;
 pub mod ranges;

@@ -6,15 +6,13 @@ ghost use Rattle.arithmetic.specs.Constants.{zero_d};
 
 use std::ops::{Add, Div, Mul, Neg, Sub};
 
-pub trait DualNum:
-    Copy
+pub trait DualNum: Copy
     + From<f64>
     + Neg<Output = Self>
     + Add<Output = Self>
     + Sub<Output = Self>
     + Mul<Output = Self>
-    + Div<Output = Self>
-{
+    + Div<Output = Self> {
     ghost arithmetic: { Arithmetic Self };
 
     fn powi(self, k: u64) -> Self

@@ -11,6 +11,7 @@ const SIGN: u64 = 0x8000_0000_0000_0000;
 
 // A pattern grows with the magnitude: the next one up is one more where the sign is clear, and one less where it is set.
 // The sign is a number and no branch, since the ends of ranges have either. From both zeros the next is the smallest double.
+#[tactic(auto, using(arithmetic::proofs::Tests::where_else, arithmetic::proofs::Tests::zero_by_zero))]
 pub fn next_up(x: f64) -> f64
     ensures { result ≡ where_finite x (next_up binary64 x) }
 {
@@ -25,6 +26,7 @@ pub fn next_up(x: f64) -> f64
 }
 
 // As next_up, with the signs the other way round.
+#[tactic(auto, using(arithmetic::proofs::Tests::where_else, arithmetic::proofs::Tests::zero_by_zero))]
 pub fn next_down(x: f64) -> f64
     ensures { result ≡ where_finite x (next_down binary64 x) }
 {

@@ -3,6 +3,7 @@ ghost use Rattle.std.specs.Prelude.{◌*◌, ◌^◌, ◌≤◌, ◌<◌, false}
 ghost use Rattle.std.specs.Float.{binary64};
 ghost use Rattle.std.specs.Float.Ieee.{of_bits};
 ghost use Rattle.std.specs.Float.Ieee.Exact.{HasValue};
+ghost use Rattle.operations.specs.Patterns.{Positive};
 
 // The weight of a significand's leading digit, and of the exponent's field in a pattern.
 pub const LEADING: u64 = 0x10_0000_0000_0000;
@@ -16,7 +17,7 @@ pub struct Number {
 
 // The positive double with the pattern b. A subnormal one has leading zeros, and is shifted up by them.
 pub fn parts(b: u64) -> Number
-    requires { (0 < b) × (b < 0x7ff0_0000_0000_0000) }
+    requires { Positive b }
     ensures bound { (2 ^ 52 ≤ result.sig) × (result.sig < 2 ^ 53) × (result.exp < 2100) }
     ensures has_value { HasValue (of_bits binary64 b) false (result.sig * 2 ^ result.exp) (2 ^ 1126) }
 {

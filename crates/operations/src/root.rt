@@ -5,6 +5,7 @@ ghost use Rattle.std.specs.Float.Ieee.{of_bits};
 ghost use Rattle.arithmetic.specs.Root.{root, sqrt};
 ghost use Rattle.arithmetic.specs.Rounds.{rounds_in, rounds};
 ghost use Rattle.arithmetic.specs.Doubles.{guarded};
+ghost use Rattle.operations.specs.Patterns.{Positive};
 
 use crate::basic::is_finite;
 use crate::parts::{LEADING, parts};
@@ -33,16 +34,16 @@ fn step(s: State) -> State
     }
 }
 
-// A root in whole numbers, as its 54 digits or as a double's pattern, and the rounds that it took.
+// A root, as its 54 digits, as a double's pattern or as a double, and the rounds that it took.
 #[derive(Clone, Copy)]
-struct Worked {
-    root: u64,
-    rounds: u64,
+pub struct Counted<R> {
+    pub root: R,
+    pub rounds: u64,
 }
 
 // The root of a * 2^54, one digit a round, up to the first round at which the square of the digits found is the whole radicand: no digit of it is to come, and no
 // remainder is left. While digits are to come the count need not be looked at: 27 rounds take them all in.
-fn digits(a: u64) -> Worked
+fn digits(a: u64) -> Counted<u64>
     requires { (2 ^ 52 ≤ a) × (a < 2 ^ 54) }
     ensures { (result.root ≡ root (a * 2 ^ 54)) × (result.rounds ≡ rounds_in (a * 2 ^ 54)) }
 {
@@ -56,7 +57,7 @@ fn digits(a: u64) -> Worked
         s = step(s);
         rounds += 1;
     }
-    Worked {
+    Counted {
         root: s.root << (54 - rounds),
         rounds: rounds,
     }
@@ -64,27 +65,20 @@ fn digits(a: u64) -> Worked
 
 // The root's pattern, by the pattern of a positive double. An odd exponent leaves a factor of 2 to the significand.
 // The 54th digit rounds: where it is 1 the root is not exact, since the radicand is even, so there is no tie.
-fn root_bits(b: u64) -> Worked
-    requires { (0 < b) × (b < 0x7ff0_0000_0000_0000) }
+fn root_bits(b: u64) -> Counted<u64>
+    requires { Positive b }
     ensures { (result.root < 0x7ff0_0000_0000_0000) × (of_bits binary64 result.root ≡ sqrt (of_bits binary64 b)) × (result.rounds ≡ rounds (of_bits binary64 b)) }
 {
     let p = parts(b);
     let r = digits(p.sig << (p.exp % 2));
-    Worked {
+    Counted {
         root: (p.exp / 2 + 485) * LEADING + (r.root + 1) / 2,
         rounds: r.rounds,
     }
 }
 
-// A root, and the rounds that it took.
-#[derive(Clone, Copy)]
-pub struct Counted {
-    pub root: f64,
-    pub rounds: u64,
-}
-
 // The double nearest to the root, with the rounds counted. A zero is its own root and takes none; below zero, and for what is not finite, there is no rule.
-pub fn counted_sqrt(v: f64) -> Counted
+pub fn counted_sqrt(v: f64) -> Counted<f64>
     ensures { (result.root ≡ guarded.sqrt v) × (result.rounds ≡ rounds v) }
 {
     if v == 0.0 {

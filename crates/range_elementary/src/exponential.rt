@@ -1,5 +1,5 @@
 // exp, powf and tanh of ranges, by the recipes of document 01.
-ghost use Rattle.std.specs.Prelude.{◌≡◌, true, false, cond, ◌&&◌, T, pos, negsuc};
+ghost use Rattle.std.specs.Prelude.{◌≡◌, Float, true, false, cond, ◌&&◌, T, pos, negsuc};
 ghost use Rattle.std.specs.Int.Signed.{le_z};
 ghost use Rattle.std.specs.Float.Ieee as Ieee;
 ghost use Rattle.std.specs.Float.{binary64};
@@ -10,6 +10,7 @@ ghost use Rattle.arithmetic.specs.Recipes as R;
 ghost use Rattle.range_elementary.specs.Moderate.{moderate};
 ghost use Rattle.range.specs.Rules as Rules;
 ghost use Rattle.range.specs.Rules.{rules, ranges, before, after};
+ghost use Rattle.elementary.specs.Exponents.{Normal};
 
 use crate::logarithm::ln;
 use crate::series::horner;
@@ -17,38 +18,36 @@ use elementary::exponential::{E, FACTORIALS, G, H, floor, power_of_two};
 use operations::next::{next_down, next_up};
 use range::basic::{Range, ends, failed};
 
-// x * t, moved down where dividing by t does not give x back.
-fn scale_down(x: f64, t: f64) -> f64
-    ensures { result ≡ cond (eq (Ieee.div binary64 (Ieee.mul binary64 x t) t) x) (Ieee.mul binary64 x t) (before (Ieee.mul binary64 x t)) }
+// x * t, moved outwards where dividing by t does not give x back.
+fn scale_end<F: Fn(f64) -> f64>(x: f64, t: f64, outwards: F) -> f64
+    requires { F.IsAlwaysCallable outwards }
+    ensures { (o : Float → Float) → ((y r : Float) → F.post outwards y r → r ≡ o y)
+        → result ≡ cond (eq (Ieee.div binary64 (Ieee.mul binary64 x t) t) x) (Ieee.mul binary64 x t) (o (Ieee.mul binary64 x t)) }
 {
     let y = x * t;
-    if y / t == x { y } else { next_down(y) }
-}
-
-// x * t, moved up where dividing by t does not give x back.
-fn scale_up(x: f64, t: f64) -> f64
-    ensures { result ≡ cond (eq (Ieee.div binary64 (Ieee.mul binary64 x t) t) x) (Ieee.mul binary64 x t) (after (Ieee.mul binary64 x t)) }
-{
-    let y = x * t;
-    if y / t == x { y } else { next_up(y) }
+    if y / t == x { y } else { outwards(y) }
 }
 
 // The range times 2^k, for the exponent of a normal double.
+#[tactic(auto, unfolding(range::specs::Rules::scale, range::specs::Rules::kept))]
 fn scale(r: Range, k: i64) -> Range
-    requires { T (le_z (negsuc 1021) k) × T (le_z k (pos 1023)) }
+    requires { Normal k }
     ensures { result ≡ rules.scale r k }
 {
     if !r.is_ok() {
         return failed();
     }
     let t = power_of_two(k);
-    ends(scale_down(r.lower, t), scale_up(r.upper, t))
+    ends(
+        scale_end(r.lower, t, |y| next_down(y)),
+        scale_end(r.upper, t, |y| next_up(y)),
+    )
 }
 
 // exp of v, by its k.
-#[tactic(auto, unfolding(arithmetic::specs::Recipes::exp_of))]
+#[tactic(auto, unfolding(arithmetic::specs::Recipes::exp_of), using(range::proofs::Constants::whole_is, elementary::proofs::Floor::normal_float))]
 fn exp_of(v: Range, k: i64) -> Range
-    requires { T (le_z (negsuc 1021) k) × T (le_z k (pos 1023)) }
+    requires { Normal k }
     ensures { result ≡ R.exp_of rules v k }
 {
     let w = Range::from(k as f64);
@@ -122,7 +121,7 @@ pub fn exp(v: Range) -> Range
 
 // v^b, as exp(b * ln v). A base of 0 gives 0 where b is above 0.
 // A moderate power of [1, 1] is known, and is not worked: its logarithm has ends on either side of 0, for which no shorter way serves, and subnormal ones.
-#[tactic(auto, unfolding(arithmetic::specs::Recipes::powf))]
+#[tactic(auto, unfolding(arithmetic::specs::Recipes::powf), using(range::proofs::Constants::zero_constant))]
 pub fn powf(v: Range, b: Range) -> Range
     ensures { result ≡ ranges.powf v b }
 {
@@ -136,7 +135,7 @@ pub fn powf(v: Range, b: Range) -> Range
     v.if_above(0.0, exp(b * ln(v)), other)
 }
 
-#[tactic(auto, unfolding(arithmetic::specs::Recipes::tanh))]
+#[tactic(auto, unfolding(arithmetic::specs::Recipes::tanh), using(range::proofs::Constants::one_constant))]
 pub fn tanh(v: Range) -> Range
     ensures { result ≡ ranges.tanh v }
 {

@@ -18,7 +18,7 @@ fn series(s: Range) -> Range
 }
 
 // ln of m * 2^e.
-#[tactic(auto, unfolding(arithmetic::specs::Recipes::ln_of))]
+#[tactic(auto, unfolding(arithmetic::specs::Recipes::ln_of), using(range::proofs::Constants::one_constant, range::proofs::Constants::whole_is))]
 fn ln_of(m: Range, e: i64) -> Range
     requires { T (in_float binary64 e) }
     ensures { result ≡ R.ln_of rules m e }
@@ -54,7 +54,7 @@ pub fn ln(v: Range) -> Range
 }
 
 // The natural logarithm of 1 + v.
-#[tactic(auto, unfolding(arithmetic::specs::Recipes::ln1p))]
+#[tactic(auto, unfolding(arithmetic::specs::Recipes::ln1p), using(range::proofs::Constants::one_constant))]
 pub fn ln_1p(v: Range) -> Range
     ensures { result ≡ ranges.ln1p v }
 {

@@ -10,7 +10,8 @@ use Rattle.arithmetic.specs.Recipes as R
 use Rattle.arithmetic.specs.Doubles.{plain}
 use Rattle.arithmetic.proofs.Tests.{below_is, above_is, le_is, zero_by_zero, failed_test, passed_test}
 use mir.ValLaws.{to_z-of_z}
-use Rattle.elementary.proofs.Floor.{Bounded, Normal, floor_normal, normal_word}
+use Rattle.elementary.proofs.Floor.{Bounded, floor_normal, normal_word}
+use Rattle.elementary.specs.Exponents.{Normal}
 use Rattle.elementary.proofs.Place.{constants, place, limited_finite, place_bounded}
 use Rattle.elementary.proofs.exponential.exp.Goals as goal
 

@@ -5,6 +5,7 @@ use lib.Ieee.{Float, nan, inf, fin, binary64, to_bits, of_bits, in_float, lt}
 use lib.Ieee.Bits.{of_bits-to_bits, is_true}
 use lib.Ieee.Scale.{finite}
 use mir.ValLaws.{to_z-of_z}
+use Rattle.std.proofs.lemmas.Float.{T_from_true}
 use Rattle.arithmetic.specs.Fraction.{◌≺◌, null}
 use Rattle.arithmetic.specs.Value.{value}
 use Rattle.arithmetic.specs.Cases.{exponent_of}
@@ -20,9 +21,6 @@ use Rattle.arithmetic.proofs.Tests.{not_below, zero_by_zero, is_so}
 use Rattle.elementary.proofs.Words.{float_word}
 use Rattle.elementary.proofs.logarithm.ln.Goals as goal
 use Rattle.elementary.proofs.logarithm.ln.Goals.{then-v+else-is_finite, else-v}
-
-so : {b : Bool} → b ≡ true → T b
-so e = subst T (sym e) tt
 
 -- ---- the recipe, by its cases
 ln_some : (v : Float) (e : ℤ) → T (finite v) → exponent_of (value v) ≡ some e → R.ln_of plain (scaled v (neg_ℤ e)) e ≡ R.ln plain v
@@ -50,7 +48,7 @@ float_to_bits-v c = finite_not_nan c.args.v (is_so _ c.args.v c.is_finite.ensure
 pub split-p-requires : goal.split-p-requires
 split-p-requires c =
     let n = is_so _ c.args.v c.is_finite.ensures c.if-is_finite.true in
-    positive_pattern c.args.v (so c.well_formed.0.1) n (above_zero c.args.v n c.if-v.true)
+    positive_pattern c.args.v (T_from_true _ c.well_formed.0.1) n (above_zero c.args.v n c.if-v.true)
 
 pub ln_of-requires : goal.ln_of-requires
 ln_of-requires c = subst (λ (z : ℤ). T (in_float binary64 z)) (sym (to_z-of_z w64 c.split-p.result.e (float_word c.split-p.result.e c.split-p.ensures.2))) c.split-p.ensures.2
@@ -58,7 +56,7 @@ ln_of-requires c = subst (λ (z : ℤ). T (in_float binary64 z)) (sym (to_z-of_z
 pub returns-then-is_finite : goal.returns-then-is_finite
 returns-then-is_finite c =
     let v = c.args.v in
-    let is : of_bits binary64 (to_bits binary64 v) ≡ v = of_bits-to_bits binary64 v (so c.well_formed.0.1) in
+    let is : of_bits binary64 (to_bits binary64 v) ≡ v = of_bits-to_bits binary64 v (T_from_true _ c.well_formed.0.1) in
     let e = c.split-p.result.e in
     c.ln_of.ensures
     ∙ ap₂ (λ (m : Float) (k : ℤ). R.ln_of plain m k) (sym c.split-p.ensures.1 ∙ ap (λ (x : Float). scaled x (neg_ℤ e)) is) (to_z-of_z w64 c.split-p.result.e (float_word c.split-p.result.e c.split-p.ensures.2))

@@ -1,7 +1,6 @@
 use Rattle.std.proofs.Common.{T, ℤ, sym, subst, w64}
 use lib.Ieee.{binary64, in_float}
 use mir.ValLaws.{to_z-of_z}
-use Rattle.arithmetic.specs.Recipes as R
 use Rattle.elementary.proofs.logarithm.ln_of.Goals as goal
 
 pub int_to_float-result : goal.int_to_float-result

@@ -12,6 +12,7 @@ use lib.Ieee.Bits.{cond_no, of_bits-to_bits}
 use lib.Ieee.Fits.{up_pos}
 use lib.Ieee.Scale.{finite}
 use borrow.Author.Tests.{ltb-false}
+use Rattle.std.proofs.lemmas.Float.{T_from_true}
 use Rattle.arithmetic.specs.Root.{sqrt}
 use Rattle.arithmetic.specs.Rounds.{rounds}
 use Rattle.arithmetic.proofs.Next.{finite_not_nan, real_plus}
@@ -50,18 +51,15 @@ none_below (fin false m e) n l =
     ]
 
 -- ---- the needs
-so : {b : Bool} → b ≡ true → T b
-so e = subst T (sym e) tt
-
 pub returns-then-v : goal.returns-then-v
-returns-then-v c = root_of_zero c.args.v (so c.well_formed.0.1) c.if-v.true
+returns-then-v c = root_of_zero c.args.v (T_from_true _ c.well_formed.0.1) c.if-v.true
 
 pub float_to_bits-v : goal.float_to_bits-v
 float_to_bits-v c = finite_not_nan c.args.v (is_so _ c.args.v c.is_finite.ensures c.if-is_finite.true)
 
 pub root_bits-r-requires : goal.root_bits-r-requires
 root_bits-r-requires c =
-    positive_pattern c.args.v (so c.well_formed.0.1) (is_so _ c.args.v c.is_finite.ensures c.if-is_finite.true) (above_zero c.args.v (is_so _ c.args.v c.is_finite.ensures c.if-is_finite.true) c.if-v-2.true)
+    positive_pattern c.args.v (T_from_true _ c.well_formed.0.1) (is_so _ c.args.v c.is_finite.ensures c.if-is_finite.true) (above_zero c.args.v (is_so _ c.args.v c.is_finite.ensures c.if-is_finite.true) c.if-v-2.true)
 
 pub float_from_bits-result : goal.float_from_bits-result
 float_from_bits-result c = let r = c.root_bits-r in real_plus binary64 r.result.root (omega (arith, r.ensures.0)) (omega (arith, r.ensures.0))
@@ -69,7 +67,7 @@ float_from_bits-result c = let r = c.root_bits-r in real_plus binary64 r.result.
 pub returns-then-is_finite : goal.returns-then-is_finite
 returns-then-is_finite c =
     let r = c.root_bits-r.ensures in
-    let e = of_bits-to_bits binary64 c.args.v (so c.well_formed.0.1) in
+    let e = of_bits-to_bits binary64 c.args.v (T_from_true _ c.well_formed.0.1) in
     (r.1 ∙ ap sqrt e, r.2 ∙ ap rounds e)
 
 pub returns : goal.returns

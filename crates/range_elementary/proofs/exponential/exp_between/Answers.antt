@@ -18,7 +18,8 @@ use Rattle.arithmetic.proofs.Fraction.{≼_trans, ≺-≼-trans}
 use Rattle.arithmetic.proofs.Value.{lt→≺, le→≼}
 use Rattle.arithmetic.proofs.Tests.{le_is, not_below, not_at_least}
 use Rattle.arithmetic.proofs.Exact.{whole_exact}
-use Rattle.elementary.proofs.Floor.{Bounded, Normal, floor_normal, normal_float, normal_word, next_float, next_word}
+use Rattle.elementary.proofs.Floor.{Bounded, floor_normal, normal_float, normal_word, next_float, next_word}
+use Rattle.elementary.specs.Exponents.{Normal}
 use Rattle.elementary.proofs.Place.{constants, place, place_bounded}
 use Rattle.range.specs.declared.basic.Range.{Range}
 use Rattle.range.specs.Rules as Rules

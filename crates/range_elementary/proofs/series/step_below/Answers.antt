@@ -1,15 +1,12 @@
 -- Where the tests pass, by the law of a product below zero; else as any.
-use mathlib.Core.Path.{◌≡◌, sym, subst, ◌∙◌}
-use mathlib.Core.Bool.{Bool, true}
+use mathlib.Core.Path.{sym, ◌∙◌}
 use borrow.Author.Rules.{rules}
-use lib.Dec.{T}
 use lib.Ieee.{neg, binary64}
 use lib.Ieee.Fits.{neg-fits}
 use Rattle.std.proofs.lemmas.Float.{T_from_true}
 use Rattle.range.specs.Rules.{range}
 use Rattle.range.proofs.Negative.{StepTests, step_below, neg_neg}
 use Rattle.range_elementary.proofs.series.step_below.Goals as goal
-
 
 pub returns-then-u : goal.returns-then-u
 returns-then-u c =

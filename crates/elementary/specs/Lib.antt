@@ -1,0 +1,2 @@
+-- What is asked of an exponent.
+pub mod Exponents
