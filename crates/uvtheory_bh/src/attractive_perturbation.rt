@@ -125,7 +125,7 @@ fn coefficient<D: DualNum>(c: &[f64; 4], rep_inv: D, d: D) -> D
 }
 
 // By the prefactor c.
-#[tactic(auto, unfolding(uvtheory::specs::Bh::AttractivePerturbation::correlation_integral_of))]
+#[tactic(auto, unfolding(uvtheory::specs::Bh::AttractivePerturbation::correlation_integral_of, uvtheory::specs::Bh::AttractivePerturbation::coefficient))]
 fn correlation_integral_bh<D: DualNum>(
     rho_x: D,
     mean_field_constant_x: D,
@@ -207,7 +207,7 @@ fn delta_b2_ij<D: DualNum>(m: &Mixture, c: &Combined<D>, t: D) -> [D; 64]
     let n = m.n;
     symmetric(n, |i: usize, j: usize| -> D
         requires { (n ≤ 8) × (i < n) × (j < n) }
-        ensures { result ≡ F.delta_b2 D.arithmetic (D.arithmetic.div t (matrix D.arithmetic n c.now.eps_k_ij i j)) (matrix D.arithmetic n c.now.rep_ij i j) (matrix D.arithmetic n c.now.att_ij i j) }
+        ensures { result ≡ F.delta_b2 D.arithmetic (D.arithmetic.div t (matrix D.arithmetic n c.entry.now.eps_k_ij i j)) (matrix D.arithmetic n c.entry.now.rep_ij i j) (matrix D.arithmetic n c.entry.now.att_ij i j) }
     {
         delta_b2_at(n, c, t, i, j)
     })

@@ -55,7 +55,7 @@ pub fn diameter_bh<D: DualNum>(m: &Mixture, temperature: D) -> [D; 8]
     let a76 = inv_a76();
     each(m.n, |i: usize| -> D
         requires { (i < 8) × (a76 ≡ P.inv_a76 D.arithmetic (D.arithmetic.constant N.six)) }
-        ensures { result ≡ F.diameter_bh D.arithmetic (parameters D.arithmetic m.now) temperature i }
+        ensures { result ≡ F.diameter_bh D.arithmetic (parameters D.arithmetic m.entry.now) temperature i }
     {
         component_diameter(m, i, temperature, a76)
     })
