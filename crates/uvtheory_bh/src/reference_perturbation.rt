@@ -28,8 +28,28 @@ fn term<D: DualNum>(xi: D, xj: D, eta_a: D, eta_b: D, di: D, dj: D, sigma_ij: D)
         * (-d_ij.powi(3) + sigma_ij.powi(3))
 }
 
-// The sum of the terms over all pairs.
+// By the values of the two components: fraction, diameter and sigma; and by those of the pair.
 #[tactic(auto, unfolding(uvtheory::specs::Bh::ReferencePerturbation::term_of))]
+fn term_of<D: DualNum>(
+    xi: D,
+    xj: D,
+    di: D,
+    dj: D,
+    si: D,
+    sj: D,
+    sigma_ij: D,
+    rep_ij: D,
+    eta: D,
+) -> D
+    ensures { result ≡ F.term_of D.arithmetic xi xj di dj si sj sigma_ij rep_ij eta }
+{
+    let t = tau(di, si, dj, sj);
+    let eta_a = packing_fraction_a(&BH_CONSTANTS_ETA_A, eta, t, rep_ij);
+    let eta_b = packing_fraction_b(&BH_CONSTANTS_ETA_B, eta, t);
+    term(xi, xj, eta_a, eta_b, di, dj, sigma_ij)
+}
+
+// The sum of the terms over all pairs.
 pub fn pair_sum<D: DualNum>(
     n: usize,
     x: &[D; 8],
@@ -46,10 +66,18 @@ pub fn pair_sum<D: DualNum>(
     for k in 0..n * n {
         let i = k / n;
         let j = k % n;
-        let t = tau(d[i], sigma[i], d[j], sigma[j]);
-        let eta_a = packing_fraction_a(&BH_CONSTANTS_ETA_A, eta, t, rep_ij[k]);
-        let eta_b = packing_fraction_b(&BH_CONSTANTS_ETA_B, eta, t);
-        sum = sum + term(x[i], x[j], eta_a, eta_b, d[i], d[j], sigma_ij[k]);
+        let term = term_of(
+            x[i],
+            x[j],
+            d[i],
+            d[j],
+            sigma[i],
+            sigma[j],
+            sigma_ij[k],
+            rep_ij[k],
+            eta,
+        );
+        sum = sum + term;
     }
     sum
 }

@@ -1,0 +1,2 @@
+-- The laws of the perturbation.
+pub mod Pairs
