@@ -14,23 +14,12 @@ use uvtheory::packing_fraction::{packing_fraction, packing_fraction_a, packing_f
 use uvtheory::parameters::{Combined, Mixture, State};
 use uvtheory::reference_energy::energy;
 
-// Of a pair of components.
-#[tactic(auto, unfolding(uvtheory::specs::Bh::ReferencePerturbation::term))]
-fn term<D: DualNum>(xi: D, xj: D, eta_a: D, eta_b: D, di: D, dj: D, sigma_ij: D) -> D
-    ensures { result ≡ F.term D.arithmetic xi xj eta_a eta_b di dj sigma_ij }
-{
-    let half = D::from(0.5);
-    let one = D::from(1.0);
-    let d_ij = (di + dj) * half;
-    xi * xj
-        * ((-eta_a * half + one) / (-eta_a + one).powi(3)
-            - (-eta_b * half + one) / (-eta_b + one).powi(3))
-        * (-d_ij.powi(3) + sigma_ij.powi(3))
-}
-
-// By the values of the two components: fraction, diameter and sigma; and by those of the pair.
-#[tactic(auto, unfolding(uvtheory::specs::Bh::ReferencePerturbation::term_of))]
-fn term_of<D: DualNum>(
+// Of a pair, by the values of the two components: fraction, diameter and sigma; and by those of the pair.
+#[tactic(auto, unfolding(
+    uvtheory::specs::Bh::ReferencePerturbation::term_of,
+    uvtheory::specs::Bh::ReferencePerturbation::term
+))]
+fn term<D: DualNum>(
     xi: D,
     xj: D,
     di: D,
@@ -46,7 +35,13 @@ fn term_of<D: DualNum>(
     let t = tau(di, si, dj, sj);
     let eta_a = packing_fraction_a(&BH_CONSTANTS_ETA_A, eta, t, rep_ij);
     let eta_b = packing_fraction_b(&BH_CONSTANTS_ETA_B, eta, t);
-    term(xi, xj, eta_a, eta_b, di, dj, sigma_ij)
+    let half = D::from(0.5);
+    let one = D::from(1.0);
+    let d_ij = (di + dj) * half;
+    xi * xj
+        * ((-eta_a * half + one) / (-eta_a + one).powi(3)
+            - (-eta_b * half + one) / (-eta_b + one).powi(3))
+        * (-d_ij.powi(3) + sigma_ij.powi(3))
 }
 
 // The sum of the terms over all pairs.
@@ -66,7 +61,7 @@ pub fn pair_sum<D: DualNum>(
     for k in 0..n * n {
         let i = k / n;
         let j = k % n;
-        let term = term_of(
+        let term = term(
             x[i],
             x[j],
             d[i],
