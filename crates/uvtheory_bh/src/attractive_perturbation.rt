@@ -87,12 +87,7 @@ pub fn delta_b2<D: DualNum>(reduced_temperature: D, rep: D, att: D) -> D
 }
 
 // The first of coefficients_bh; d to the 6 - rep is worked once for two of its parts.
-#[tactic(auto, unfolding(
-    uvtheory::specs::Bh::AttractivePerturbation::coefficient_1,
-    uvtheory::specs::Bh::AttractivePerturbation::c11,
-    uvtheory::specs::Bh::AttractivePerturbation::c12,
-    uvtheory::specs::Bh::AttractivePerturbation::c13
-))]
+#[tactic(auto, unfolding(uvtheory::specs::Bh::AttractivePerturbation::coefficient_1, uvtheory::specs::Bh::AttractivePerturbation::c11, uvtheory::specs::Bh::AttractivePerturbation::c12, uvtheory::specs::Bh::AttractivePerturbation::c13))]
 fn coefficient_1<D: DualNum>(rep: D, att: D, d: D) -> D
     ensures { result ≡ F.coefficient_1 D.arithmetic rep att d }
 {
@@ -169,8 +164,8 @@ fn u_fraction_bh<D: DualNum>(rep_x: D, reduced_density: D, one_fluid_beta: D) ->
     let c2 = coefficient_u(&CU_BH[2], inv_rep);
     let c3 = coefficient_u(&CU_BH[3], inv_rep);
     (activation(c1, one_fluid_beta) * (-c0 + one) + c0)
-        * (reduced_density.powf(D::from(1.2187)) * c2 + reduced_density.powf(D::from(4.2773)) * c3)
-            .tanh()
+        * (reduced_density.powf(D::from(1.2187)) * c2
+            + reduced_density.powf(D::from(4.2773)) * c3).tanh()
 }
 
 // Of the properties of the one fluid; its prefactor is worked once.
@@ -190,27 +185,22 @@ pub fn energy<D: DualNum>(o: &OneFluid<D>, t: D, density: D, rho: D, b2bar: D) -
     density * (delta_a1u + (-u_fraction + one) * (b2bar - b21u) * density)
 }
 
-// Of the pair (i, j).
-fn delta_b2_at<D: DualNum>(n: usize, c: &Combined<D>, t: D, i: usize, j: usize) -> D
-    requires { (n ≤ 8) × (i < n) × (j < n) }
-    ensures { result ≡ F.delta_b2 D.arithmetic (D.arithmetic.div t (matrix D.arithmetic n c.now.eps_k_ij i j)) (matrix D.arithmetic n c.now.rep_ij i j) (matrix D.arithmetic n c.now.att_ij i j) }
-{
-    let k = i * n + j;
-    delta_b2(t / c.eps_k_ij[k], c.rep_ij[k], c.att_ij[k])
-}
-
 // Of all pairs.
 fn delta_b2_ij<D: DualNum>(m: &Mixture, c: &Combined<D>, t: D) -> [D; 64]
     requires { (m.now.n ≤ 8) × CombinedOf D.arithmetic m.now c.now }
     ensures { Matrix D.arithmetic m.now.n result (F.delta_b2_ij D.arithmetic (parameters D.arithmetic m.now) t) }
 {
     let n = m.n;
-    symmetric(n, |i: usize, j: usize| -> D
-        requires { (n ≤ 8) × (i < n) × (j < n) }
-        ensures { result ≡ F.delta_b2 D.arithmetic (D.arithmetic.div t (matrix D.arithmetic n c.entry.now.eps_k_ij i j)) (matrix D.arithmetic n c.entry.now.rep_ij i j) (matrix D.arithmetic n c.entry.now.att_ij i j) }
-    {
-        delta_b2_at(n, c, t, i, j)
-    })
+    symmetric(
+        n,
+        |i: usize, j: usize| -> D
+            requires { (n ≤ 8) × (i < n) × (j < n) }
+            ensures { result ≡ F.delta_b2 D.arithmetic (D.arithmetic.div t (matrix D.arithmetic n c.entry.now.eps_k_ij i j)) (matrix D.arithmetic n c.entry.now.rep_ij i j) (matrix D.arithmetic n c.entry.now.att_ij i j) }
+        {
+            let k = i * n + j;
+            delta_b2(t / c.eps_k_ij[k], c.rep_ij[k], c.att_ij[k])
+        },
+    )
 }
 
 // By the combined values c, the diameters d and the density.

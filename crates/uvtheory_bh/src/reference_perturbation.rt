@@ -15,21 +15,8 @@ use uvtheory::parameters::{Combined, Mixture, State};
 use uvtheory::reference_energy::energy;
 
 // Of a pair, by the values of the two components: fraction, diameter and sigma; and by those of the pair.
-#[tactic(auto, unfolding(
-    uvtheory::specs::Bh::ReferencePerturbation::term_of,
-    uvtheory::specs::Bh::ReferencePerturbation::term
-))]
-fn term<D: DualNum>(
-    xi: D,
-    xj: D,
-    di: D,
-    dj: D,
-    si: D,
-    sj: D,
-    sigma_ij: D,
-    rep_ij: D,
-    eta: D,
-) -> D
+#[tactic(auto, unfolding(uvtheory::specs::Bh::ReferencePerturbation::term_of, uvtheory::specs::Bh::ReferencePerturbation::term))]
+fn term<D: DualNum>(xi: D, xj: D, di: D, dj: D, si: D, sj: D, sigma_ij: D, rep_ij: D, eta: D) -> D
     ensures { result ≡ F.term_of D.arithmetic xi xj di dj si sj sigma_ij rep_ij eta }
 {
     let t = tau(di, si, dj, sj);

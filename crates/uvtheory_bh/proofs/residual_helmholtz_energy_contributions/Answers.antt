@@ -1,4 +1,4 @@
-use Rattle.std.proofs.Common.{rules, ◌∙◌}
+use Rattle.std.proofs.Common.{rules}
 use Rattle.uvtheory.specs.Rows.{missing}
 use Rattle.uvtheory.specs.Inputs.{state_of}
 use Rattle.uvtheory.proofs.Loops.{adds}
