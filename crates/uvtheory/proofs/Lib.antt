@@ -4,3 +4,5 @@ pub mod Combined
 pub mod Sums
 pub mod Loops
 pub mod Kept
+pub mod Sizes
+pub mod Pairs

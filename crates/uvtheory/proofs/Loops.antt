@@ -38,10 +38,10 @@ column_of n k h = mod-lt k (some_rows n k h)
 pub at_pair : (n k : ℕ) → k / n * n + k % n ≡ k
 at_pair n k = div-add-mod' k n
 
-pair_row : (n i j : ℕ) → j < n → (i * n + j) / n ≡ i
+pub pair_row : (n i j : ℕ) → j < n → (i * n + j) / n ≡ i
 pair_row n i j h = div-eq_of_lt-le n (let z : i * n ≤ i * n + j = omega arith in z) (let z : i * n + j < (i + 1) * n = omega (arith, add-mul i 1 n) in z)
 
-pair_column : (n i j : ℕ) → j < n → (i * n + j) % n ≡ j
+pub pair_column : (n i j : ℕ) → j < n → (i * n + j) % n ≡ j
 pair_column n i j h = let e = at_pair n (i * n + j) in let q = pair_row n i j h in add_left_cancel (i * n) (subst (λ (r : ℕ). r * n + (i * n + j) % n ≡ i * n + j) q e)
 
 -- below the diagonal the pair (j, i) stands before the pair (i, j)

@@ -3,7 +3,7 @@ use Rattle.uvtheory.specs.Rows.{missing}
 use Rattle.uvtheory.specs.Inputs.{state_of}
 use Rattle.uvtheory.proofs.Loops.{adds}
 use Rattle.uvtheory.proofs.Sums.{spherical_of}
-use Rattle.uvtheory_bh.proofs.Sizes.{combined_fits}
+use Rattle.uvtheory.proofs.Sizes.{combined_fits}
 use Rattle.uvtheory_bh.proofs.residual_helmholtz_energy_contributions.Goals as goal
 
 pub combine-c-requires : goal.combine-c-requires

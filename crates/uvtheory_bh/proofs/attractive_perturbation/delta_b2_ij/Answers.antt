@@ -3,7 +3,7 @@ use Rattle.uvtheory.specs.Rows.{missing}
 use Rattle.uvtheory.specs.Inputs.{parameters}
 use Rattle.uvtheory.specs.Bh.AttractivePerturbation as F
 use Rattle.uvtheory.proofs.Combined.{Flips, flip}
-use Rattle.uvtheory_bh.proofs.Pairs.{at_place}
+use Rattle.uvtheory.proofs.Pairs.{at_place}
 use Rattle.uvtheory_bh.proofs.attractive_perturbation.delta_b2_ij.Goals as goal
 
 pub returns : goal.returns

@@ -1,3 +1,0 @@
--- The laws of the perturbation.
-pub mod Pairs
-pub mod Sizes
