@@ -74,7 +74,7 @@ fn state_inside(c: BoundedCase) -> bool
 }
 
 // A test of the table, with what is due where it fails.
-fn require(passes: bool, refusal: Refusal) -> Result<(), Refusal>
+pub fn require(passes: bool, refusal: Refusal) -> Result<(), Refusal>
     ensures { result ≡ first_failing ((refusal, passes) ∷ []) }
 {
     if passes { Ok(()) } else { Err(refusal) }
