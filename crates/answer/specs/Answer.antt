@@ -3,6 +3,8 @@ use Rattle.std.specs.Prelude.{ℕ, ◌+◌, ◌*◌, ◌≡◌, refl, List, [], 
 use Rattle.range.specs.declared.basic.Range.{Range}
 use Rattle.dual.specs.declared.basic.Dual.{Dual}
 use Rattle.big_endian.specs.Bytes.{bytes_of, double_bytes, doubles_bytes}
+use Rattle.refusal.specs.declared.Refusal.{Refusal}
+use Rattle.refusal.specs.Code.{code}
 use Rattle.answer.specs.declared.Answer.{Answer}
 use Rattle.answer.specs.declared.Answer.TheVariants.{Energies, Ends, Slopes, Refused}
 
@@ -15,7 +17,7 @@ abbrev pub code_of : Answer → ℕ
 code_of (Energies x y z) = 0
 code_of (Ends x y z) = 0
 code_of (Slopes x y z) = 0
-code_of (Refused code) = code
+code_of (Refused refusal) = code refusal
 
 -- "Code 0: energies are followed by 3 doubles (28 bytes in all), ends by 3 pairs lower, upper (52 bytes)."
 -- M-100: "The answer is three pairs value, slope, in 52 bytes as for ends"
@@ -23,15 +25,15 @@ abbrev pub doubles_of : Answer → List Float
 doubles_of (Energies x y z) = x ∷ y ∷ z ∷ []
 doubles_of (Ends x y z) = x.lower ∷ x.upper ∷ y.lower ∷ y.upper ∷ z.lower ∷ z.upper ∷ []
 doubles_of (Slopes x y z) = x.value ∷ x.slope ∷ y.value ∷ y.slope ∷ z.value ∷ z.slope ∷ []
-doubles_of (Refused code) = []
+doubles_of (Refused refusal) = []
 
 abbrev pub answer_bytes : Answer → List ℕ
 answer_bytes a = answer_with (code_of a) (doubles_of a)
 
 -- "A refusal is four bytes: 00 02 01 and the code."
-pub refusal_bytes : (code : ℕ) → answer_bytes (Refused code) ≡ 0x00 ∷ 0x02 ∷ 0x01 ∷ code ∷ []
+pub refusal_bytes : (refusal : Refusal) → answer_bytes (Refused refusal) ≡ 0x00 ∷ 0x02 ∷ 0x01 ∷ code refusal ∷ []
 unfolding bytes_of
-refusal_bytes code = refl
+refusal_bytes refusal = refl
 
 pub energies_bytes : (x y z : Float) → length (answer_bytes (Energies x y z)) ≡ 28
 unfolding bytes_of double_bytes

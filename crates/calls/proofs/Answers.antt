@@ -1,10 +1,9 @@
 -- The answer to a record, stage by stage, and that what the code works is what the definition says.
 use Prim.Native.Nat.{ℕ}
 use mathlib.Core.Path.{◌≡◌, refl, sym, ap, ◌∙◌, subst}
-use mathlib.Core.Bool.{Bool, true, false, ◌&&◌, cond}
-use mathlib.Core.List.{List, ◌++◌}
-use lib.Dec.{T, eqb}
-use borrow.Author.Tests.{eq-eqb, ne_eqb}
+use mathlib.Core.Bool.{Bool, true, false, ◌&&◌}
+use mathlib.Core.List.{List, [], ◌∷◌, ◌++◌}
+use lib.Dec.{T}
 use lib.Ieee.{Float, nan, inf, fin}
 use lib.Ieee.Scale.{finite}
 use Rattle.arithmetic.specs.Doubles.{checked, guarded}
@@ -27,41 +26,34 @@ use Rattle.eos.proofs.Sloped as Sloped
 use Rattle.case_record.specs.declared.case.Case.{Case}
 use Rattle.case_record.specs.Record.{case_of}
 use Rattle.checks.specs.Checks.{Checks, envelope, substances, state, first_failing}
-use Rattle.checks.proofs.Accepted.{NoneZero, in_order}
 use Rattle.answer.specs.declared.Answer.{Answer}
-use Rattle.answer.specs.declared.Answer.TheVariants.{Energies, Ends, Slopes, Refused}
+use Rattle.answer.specs.declared.Answer.TheVariants.{Energies, Ends, Slopes}
 use Rattle.calls.specs.declared.kinds.Kind.{Kind}
 use Rattle.calls.specs.declared.kinds.Kind.TheVariants.{Energies as ForEnergies, Ends as ForEnds, Slopes as ForSlopes}
-use Rattle.calls.specs.Answers.{all, answer_of, answered, arithmetic, beyond, ends_of, energies_of, result_of, slopes_of, worked_of}
+use Rattle.std.specs.Prelude.{Result, Ok, Err}
+use Rattle.std.specs.Result.{result_and}
+use Rattle.refusal.specs.declared.Refusal.{Refusal}
+use Rattle.refusal.specs.declared.Refusal.TheVariants as Due
+use Rattle.calls.specs.Answers.{all, arithmetic, beyond, ends_of, energies_of, order, result_of, slopes_of, staged, tested, worked_of}
 
--- ---- an answer behind a code, and behind the codes of two stages
-module _ (code : ℕ) (a : Answer) where
-  pub passed : code ≡ 0 → answered code a ≡ a
-  unfolding answered
-  passed h = simp (eq-eqb code 0 h)
-
-  pub refused : (code ≡ 0 → ⊥) → answered code a ≡ Refused code
-  unfolding answered
-  refused h = simp (ne_eqb code 0 h)
-
-pub in_stages : (a b : Checks) (x : Answer) → NoneZero a → answered (first_failing (a ++ b)) x ≡ answered (first_failing a) (answered (first_failing b) x)
-unfolding answered
-in_stages a b x h = rw (in_order a b h) (go (eqb (first_failing a) 0) refl)
-  where
-    go : (p : Bool) → eqb (first_failing a) 0 ≡ p → let code = cond p (first_failing b) (first_failing a) in
-        cond (eqb code 0) x (Refused code) ≡ cond p (cond (eqb (first_failing b) 0) x (Refused (first_failing b))) (Refused (first_failing a))
-    go true e = refl
-    go false e = rw e
+-- ---- behind the tests of one stage those of the next
+pub in_stages : (a b : Checks) (x : Answer) → tested (a ++ b) x ≡ result_and (first_failing a) (tested b x)
+unfolding tested
+in_stages [] b x = refl
+in_stages ((refusal, true) ∷ rest) b x = in_stages rest b x
+in_stages ((refusal, false) ∷ rest) b x = refl
 
 -- of the record, of its case, and of what is worked
-pub stages : (kind : Kind) (s : List ℕ) → let c = case_of s in
-    answer_of kind s ≡ answered (first_failing (envelope s)) (answered (first_failing (substances c ++ state c)) (worked_of kind c))
-unfolding answer_of worked_of
+pub stages : (kind : Kind) (s : List ℕ) → staged kind s ≡ tested (order kind s) (result_of kind (case_of s))
+unfolding worked_of
 stages kind s =
     let c = case_of s in
     let worked = arithmetic c ++ beyond kind c in
-    in_stages (envelope s) ((substances c ++ state c) ++ worked) (result_of kind c) (tt, (tt, (tt, (tt, (tt, tt)))))
-    ∙ ap (answered (first_failing (envelope s))) (in_stages (substances c ++ state c) worked (result_of kind c) (tt, (tt, tt)))
+    let x = result_of kind c in
+    sym (
+    in_stages (envelope s) ((substances c ++ state c) ++ worked) x
+    ∙ ap (result_and (first_failing (envelope s))) (in_stages (substances c) (state c ++ worked) x ∙ ap (result_and (first_failing (substances c))) (in_stages (state c) worked x))
+    )
 
 -- ---- three tests
 each_same : {p q r p' q' r' : Bool} → p ≡ p' → q ≡ q' → r ≡ r' → p && q && r ≡ p' && q' && r'
@@ -94,44 +86,46 @@ module _ {h g d : Float} (held : h ≡ g) (agrees : checked g ≡ d) where
 
 module _ (c : Case) {e : Held} (are : ContributionsOf e (contributions guarded c.perturbation c.mixture (Inputs.state guarded c.state))) {b : Bool}
     (b_is : b ≡ finite e.hard_sphere && finite e.reference && finite e.attractive) where
-  tested : b ≡ all finite (energies_of c)
-  tested =
+  same_test : b ≡ all finite (energies_of c)
+  same_test =
       let a = contributions_agree c.perturbation c.mixture c.state in
       b_is ∙ each_same (test_is are.hard_sphere_is a.hard_sphere_is) (test_is are.reference_is a.reference_is) (test_is are.attractive_is a.attractive_is)
 
-  pub all_finite : b ≡ true → Energies e.hard_sphere e.reference e.attractive ≡ worked_of ForEnergies c
-  unfolding worked_of answered
-  all_finite h =
-      let a = contributions_agree c.perturbation c.mixture c.state in
-      let t = each_true (finite e.hard_sphere) (finite e.reference) (finite e.attractive) (sym b_is ∙ h) in
-      rw (
-        sym tested ∙ h,
-        value_is are.hard_sphere_is a.hard_sphere_is t.0,
-        value_is are.reference_is a.reference_is t.1,
-        value_is are.attractive_is a.attractive_is t.2,
-      )
+  pub energies_worked : result_and (first_failing ((Due.Arithmetic, b) ∷ [])) (Ok (Energies e.hard_sphere e.reference e.attractive)) ≡ worked_of ForEnergies c
+  unfolding worked_of tested
+  energies_worked = go b refl
+    where
+      go : (p : Bool) → b ≡ p → result_and (first_failing ((Due.Arithmetic, p) ∷ [])) (Ok (Energies e.hard_sphere e.reference e.attractive)) ≡ worked_of ForEnergies c
+      go true h =
+          let a = contributions_agree c.perturbation c.mixture c.state in
+          let t = each_true (finite e.hard_sphere) (finite e.reference) (finite e.attractive) (sym b_is ∙ h) in
+          rw (
+            sym same_test ∙ h,
+            value_is are.hard_sphere_is a.hard_sphere_is t.0,
+            value_is are.reference_is a.reference_is t.1,
+            value_is are.attractive_is a.attractive_is t.2,
+          )
+      go false h = rw (sym same_test ∙ h)
 
-  -- and of the ends, by the same test
-  pub ends_worked : b ≡ true → answered (first_failing (beyond ForEnds c)) (result_of ForEnds c) ≡ worked_of ForEnds c
-  unfolding worked_of answered
-  ends_worked h = rw (sym tested ∙ h)
-
-  pub not_all_finite : (kind : Kind) → b ≡ false → Refused 9 ≡ worked_of kind c
-  unfolding worked_of answered
-  not_all_finite kind h = rw (sym tested ∙ h)
+-- behind the energies' test the ends
+pub ends_worked : (c : Case) → result_and (worked_of ForEnergies c) (tested (beyond ForEnds c) (result_of ForEnds c)) ≡ worked_of ForEnds c
+unfolding worked_of tested
+ends_worked c = go (all finite (energies_of c))
+  where
+    go : (p : Bool) → let x = result_of ForEnds c in
+        result_and (result_and (first_failing ((Due.Arithmetic, p) ∷ [])) (Ok (result_of ForEnergies c))) (result_and (first_failing (beyond ForEnds c)) (Ok x))
+        ≡ result_and (first_failing ((Due.Arithmetic, p) ∷ beyond ForEnds c)) (Ok x)
+    go true = refl
+    go false = refl
 
 -- ---- the three ranges
 module _ (c : Case) {e : HeldRanges} (are : RangesOf e (ends_of c)) {b : Bool} (b_is : b ≡ Range.ok e.hard_sphere && Range.ok e.reference && Range.ok e.attractive) where
   ranges_tested : b ≡ all Range.ok (ends_of c)
   ranges_tested = b_is ∙ rw (are.hard_sphere_is, are.reference_is, are.attractive_is)
 
-  pub all_ok : b ≡ true → Ends e.hard_sphere e.reference e.attractive ≡ answered (first_failing (beyond ForEnds c)) (result_of ForEnds c)
-  unfolding answered
-  all_ok h = rw (sym ranges_tested ∙ h, are.hard_sphere_is, are.reference_is, are.attractive_is)
-
-  pub not_all_ok : b ≡ false → Refused 10 ≡ answered (first_failing (beyond ForEnds c)) (result_of ForEnds c)
-  unfolding answered
-  not_all_ok h = rw (sym ranges_tested ∙ h)
+  pub ranges_worked : result_and (first_failing ((Due.Ends, b) ∷ [])) (Ok (Ends e.hard_sphere e.reference e.attractive)) ≡ tested (beyond ForEnds c) (result_of ForEnds c)
+  unfolding tested
+  ranges_worked = rw (ranges_tested, are.hard_sphere_is, are.reference_is, are.attractive_is)
 
 -- ---- the three with slopes: the code holds h, works g, and the definition has d
 module _ {h g d : Dual} (held : h ≡ g) (agrees : Same g d) where
@@ -143,14 +137,6 @@ module _ {h g d : Dual} (held : h ≡ g) (agrees : Same g d) where
 
   dual_value_tested : finite h.value ≡ finite d.value
   dual_value_tested = ap (λ (x : Dual). finite x.value) held ∙ finite_checked g.value ∙ ap (λ (x : Dual). finite x.value) agrees.is
-
--- where both halves are finite, so is the value
-ok_value : (h : Dual) → T (Dual.ok h) → finite h.value ≡ true
-ok_value h k = go (finite h.value) (finite h.slope) k
-  where
-    go : (p q : Bool) → T (p && q) → p ≡ true
-    go true q k = refl
-    go false q k = absurd k
 
 module _ (c : Case) {e : HeldDuals} (are : DualsOf e (contributions guarded_slopes c.perturbation c.mixture (started plain c.state))) where
   -- the values are the energies
@@ -170,25 +156,24 @@ module _ (c : Case) {e : HeldDuals} (are : DualsOf e (contributions guarded_slop
         let a = Sloped.contributions_agree c.perturbation c.mixture c.state in
         b_is ∙ each_same (dual_tested are.hard_sphere_is a.hard_sphere_is) (dual_tested are.reference_is a.reference_is) (dual_tested are.attractive_is a.attractive_is)
 
-    pub all_sloped : b ≡ true → Slopes e.hard_sphere e.reference e.attractive ≡ worked_of ForSlopes c
-    unfolding worked_of answered
-    all_sloped h =
-        let a = Sloped.contributions_agree c.perturbation c.mixture c.state in
-        let t = each_true (Dual.ok e.hard_sphere) (Dual.ok e.reference) (Dual.ok e.attractive) (sym b_is ∙ h) in
-        let f : true ≡ all finite (energies_of c) = values_tested (sym (each_same (ok_value e.hard_sphere t.0) (ok_value e.reference t.1) (ok_value e.attractive t.2))) in
-        rw (
-          sym f,
-          sym slopes_tested ∙ h,
-          dual_is are.hard_sphere_is a.hard_sphere_is t.0,
-          dual_is are.reference_is a.reference_is t.1,
-          dual_is are.attractive_is a.attractive_is t.2,
-        )
-
-    module _ {v : Bool} (v_is : v ≡ finite e.hard_sphere.value && finite e.reference.value && finite e.attractive.value) (h : b ≡ false) where
-      pub slope_fails : v ≡ true → Refused 11 ≡ worked_of ForSlopes c
-      unfolding worked_of answered
-      slope_fails k = rw (sym (values_tested v_is) ∙ k, sym slopes_tested ∙ h)
-
-      pub value_fails : v ≡ false → Refused 9 ≡ worked_of ForSlopes c
-      unfolding worked_of answered
-      value_fails k = rw (sym (values_tested v_is) ∙ k)
+    module _ {v : Bool} (v_is : v ≡ finite e.hard_sphere.value && finite e.reference.value && finite e.attractive.value) where
+      pub slopes_worked : result_and (first_failing ((Due.Arithmetic, v) ∷ [])) (result_and (first_failing ((Due.Slopes, b) ∷ [])) (Ok (Slopes e.hard_sphere e.reference e.attractive)))
+          ≡ worked_of ForSlopes c
+      unfolding worked_of tested
+      slopes_worked = go v b refl refl
+        where
+          go : (p q : Bool) → v ≡ p → b ≡ q
+              → result_and (first_failing ((Due.Arithmetic, p) ∷ [])) (result_and (first_failing ((Due.Slopes, q) ∷ [])) (Ok (Slopes e.hard_sphere e.reference e.attractive)))
+              ≡ worked_of ForSlopes c
+          go false q k h = rw (sym (values_tested v_is) ∙ k)
+          go true false k h = rw (sym (values_tested v_is) ∙ k, sym slopes_tested ∙ h)
+          go true true k h =
+              let a = Sloped.contributions_agree c.perturbation c.mixture c.state in
+              let t = each_true (Dual.ok e.hard_sphere) (Dual.ok e.reference) (Dual.ok e.attractive) (sym b_is ∙ h) in
+              rw (
+                sym (values_tested v_is) ∙ k,
+                sym slopes_tested ∙ h,
+                dual_is are.hard_sphere_is a.hard_sphere_is t.0,
+                dual_is are.reference_is a.reference_is t.1,
+                dual_is are.attractive_is a.attractive_is t.2,
+              )

@@ -2,10 +2,9 @@
 -- The operations keep what ends enclose (crate range, `certified`), so the formulas of the three perturbations do (crate eos, `as_sent`).
 use Prim.Native.Nat.{ℕ}
 use mathlib.Core.Path.{◌≡◌, refl, sym, subst, ◌∙◌}
-use mathlib.Core.Bool.{Bool, true, false, cond}
+use mathlib.Core.Bool.{true, false}
 use mathlib.Core.List.{List, [], ◌∷◌, ◌++◌}
 use native.Mathlib.Omega.{arith}
-use lib.Dec.{T, eqb, eqb→eq}
 use lib.Ieee.{Float}
 use lib.Ieee.Scale.{finite}
 use Rattle.arithmetic.specs.Doubles.{doubles}
@@ -19,13 +18,16 @@ use Rattle.range.proofs.Certified.{Holds, certified, enclosed}
 use Rattle.range.proofs.Carried.{Carries, carried}
 use Rattle.eos.proofs.Sent.{as_sent}
 use Rattle.case_record.specs.Record.{case_of}
-use Rattle.checks.specs.Checks.{envelope, substances, state, first_failing}
+use Rattle.std.specs.Prelude.{Ok}
+use Rattle.refusal.specs.declared.Refusal.{Refusal}
+use Rattle.checks.specs.Checks.{Checks, envelope, substances, state, first_failing}
+use Rattle.checks.proofs.Accepted.{all_passed, in_order}
 use Rattle.answer.specs.declared.Answer.{Answer}
 use Rattle.answer.specs.declared.Answer.TheVariants.{Ends, Refused}
 use Rattle.calls.specs.declared.kinds.Kind.TheVariants.{Energies as ForEnergies, Ends as ForEnds}
-use Rattle.calls.specs.Answers.{all, answer_of, answered, ends_of, energies_of, result_of, worked_of}
+use Rattle.calls.specs.Answers.{answer_of, answered, arithmetic, beyond, ends_of, energies_of, order, result_of, tested}
 use Rattle.calls.specs.Guarantee.{reading_of, EnergyHeld, EndsHold}
-use Rattle.calls.proofs.Answers.{each_true, passed, stages}
+use Rattle.calls.proofs.Answers.{each_true}
 
 -- ---- one energy: its range r is ok
 module _ {r : Range} {d : Float} {x : Reading} (holds : Holds d x) (carries : Carries r x) (ok_r : Ok r) where
@@ -45,48 +47,58 @@ module _ {r : Range} {d : Float} {x : Reading} (holds : Holds d x) (carries : Ca
       }
 
 -- ---- what an answer with ends says
-no_ends : {X : Type 0} {code : ℕ} {h r a : Range} → Refused code ≡ Ends h r a → X
+no_ends : {X : Type 0} {refusal : Refusal} {h r a : Range} → Refused refusal ≡ Ends h r a → X
 no_ends e = let z : ◌≡◌ {A = ℕ} 0 1 = cc in absurd (omega arith)
 
 three_ends : {x y z h r a : Range} → Ends x y z ≡ Ends h r a → (x ≡ h) × (y ≡ r) × (z ≡ a)
 three_ends e = (cc, cc, cc)
 
--- behind a code: the code is 0
-no_code : (code : ℕ) (x : Answer) {h r a : Range} → answered code x ≡ Ends h r a → (code ≡ 0) × (x ≡ Ends h r a)
-unfolding answered
-no_code code x {h} {r} {a} = go (eqb code 0) refl
-  where
-    go : (b : Bool) → eqb code 0 ≡ b → cond b x (Refused code) ≡ Ends h r a → (code ≡ 0) × (x ≡ Ends h r a)
-    go true e q = (eqb→eq code 0 (subst T (sym e) tt), q)
-    go false e q = no_ends q
-
-both_pass : (p q : Bool) → first_failing ((9, p) ∷ (10, q) ∷ []) ≡ 0 → (p ≡ true) × (q ≡ true)
-both_pass true true e = (refl, refl)
-both_pass true false e = absurd (omega (arith, e))
-both_pass false q e = absurd (omega (arith, e))
-
 -- no check refuses the record or its case, the energies are finite, and the ends are the case's
 pub record HasEnds (s : List ℕ) (h r a : Range) : Type 0 where
-  pub of_record : first_failing (envelope s) ≡ 0
-  pub of_case : first_failing (substances (case_of s) ++ state (case_of s)) ≡ 0
-  pub are_finite : all finite (energies_of (case_of s)) ≡ true
+  pub has_energies : answer_of ForEnergies s ≡ result_of ForEnergies (case_of s)
+  pub of_record : first_failing (envelope s) ≡ Ok tt
   pub are_ok : all ok (ends_of (case_of s)) ≡ true
   pub are : result_of ForEnds (case_of s) ≡ Ends h r a
 
+-- what is answered behind tests is with ends where all of them pass
+passed_all : (tests : Checks) (x : Answer) {h r a : Range} → answered (tested tests x) ≡ Ends h r a → (first_failing tests ≡ Ok tt) × (x ≡ Ends h r a)
+unfolding tested
+passed_all [] x e = (refl, e)
+passed_all ((refusal, true) ∷ rest) x e = passed_all rest x e
+passed_all ((refusal, false) ∷ rest) x e = no_ends e
+
+-- of the first tests, and of the others
+in_front : (a b : Checks) → first_failing (a ++ b) ≡ Ok tt → (first_failing a ≡ Ok tt) × (first_failing b ≡ Ok tt)
+in_front [] b e = (refl, e)
+in_front ((refusal, true) ∷ rest) b e = in_front rest b e
+in_front ((refusal, false) ∷ rest) b e = let z : ◌≡◌ {A = ℕ} 0 1 = cc in absurd (omega arith)
+
 has_ends : (s : List ℕ) {h r a : Range} → answer_of ForEnds s ≡ Ends h r a → HasEnds s h r a
-unfolding worked_of
+unfolding answer_of
 has_ends s e =
     let c = case_of s in
-    let (of_record, e₁) = no_code (first_failing (envelope s)) _ (sym (stages ForEnds s) ∙ e) in
-    let (of_case, e₂) = no_code (first_failing (substances c ++ state c)) _ e₁ in
-    let (none, are) = no_code (first_failing ((9, all finite (energies_of c)) ∷ (10, all ok (ends_of c)) ∷ [])) _ e₂ in
-    let (are_finite, are_ok) = both_pass (all finite (energies_of c)) (all ok (ends_of c)) none in
-    record { of_record = of_record; of_case = of_case; are_finite = are_finite; are_ok = are_ok; are = are }
+    let (all_pass, are) = passed_all (order ForEnds s) (result_of ForEnds c) e in
+    let (of_record, behind) = in_front (envelope s) ((substances c ++ state c) ++ arithmetic c ++ beyond ForEnds c) all_pass in
+    let (of_case, of_worked) = in_front (substances c ++ state c) (arithmetic c ++ beyond ForEnds c) behind in
+    let (_, (are_ok, _)) = all_passed (arithmetic c ++ beyond ForEnds c) of_worked in
+    record {
+      has_energies = energies_behind s of_record of_case (in_front (arithmetic c) (beyond ForEnds c) of_worked).0;
+      of_record = of_record;
+      are_ok = are_ok;
+      are = are;
+    }
+  where
+    joined : (a b : Checks) → first_failing a ≡ Ok tt → first_failing b ≡ Ok tt → first_failing (a ++ b) ≡ Ok tt
+    joined a b e f = in_order a b ∙ rw (e, f)
 
-has_energies : (s : List ℕ) {h r a : Range} → HasEnds s h r a → answer_of ForEnergies s ≡ result_of ForEnergies (case_of s)
-unfolding worked_of answered
-has_energies s e =
-    stages ForEnergies s ∙ passed (first_failing (envelope s)) _ e.of_record ∙ passed (first_failing (substances (case_of s) ++ state (case_of s))) _ e.of_case ∙ rw e.are_finite
+    energies_behind : (s : List ℕ) → first_failing (envelope s) ≡ Ok tt → first_failing (substances (case_of s) ++ state (case_of s)) ≡ Ok tt → first_failing (arithmetic (case_of s)) ≡ Ok tt
+        → answer_of ForEnergies s ≡ result_of ForEnergies (case_of s)
+    unfolding answer_of tested
+    energies_behind s i j k =
+        let c = case_of s in
+        let e : first_failing (order ForEnergies s) ≡ Ok tt =
+        joined (envelope s) ((substances c ++ state c) ++ arithmetic c ++ []) i (joined (substances c ++ state c) (arithmetic c ++ []) j (joined (arithmetic c) [] k refl)) in
+        rw e
 
 -- ---- the theorem
 pub ends_hold : (s : List ℕ) (hard_sphere reference attractive : Range) → answer_of ForEnds s ≡ Ends hard_sphere reference attractive → EndsHold s hard_sphere reference attractive
@@ -103,7 +115,7 @@ ends_hold s h r a e =
       x = d.hard_sphere;
       y = d.reference;
       z = d.attractive;
-      energies = has_energies s has;
+      energies = has.has_energies;
       hard_sphere_held = subst (λ (i : Range). EnergyHeld i d.hard_sphere (reading_of c).hard_sphere) h_is (held holds.hard_sphere_is carries.hard_sphere_is i);
       reference_held = subst (λ (i : Range). EnergyHeld i d.reference (reading_of c).reference) r_is (held holds.reference_is carries.reference_is j);
       attractive_held = subst (λ (i : Range). EnergyHeld i d.attractive (reading_of c).attractive) a_is (held holds.attractive_is carries.attractive_is k);

@@ -1,5 +1,6 @@
 -- What a call answers to a record, by its kind: the codes in their order, and the answer behind them.
-use Rattle.std.specs.Prelude.{ℕ, List, [], ◌∷◌, ◌++◌, Bool, ◌&&◌, cond, eqb, Float}
+use Rattle.std.specs.Prelude.{ℕ, List, [], ◌∷◌, ◌++◌, Bool, ◌&&◌, Float, Result, Ok, Err}
+use Rattle.std.specs.Result.{result_and}
 use Rattle.std.specs.Float.Ieee.Scale.{finite}
 use Rattle.arithmetic.specs.Doubles.{doubles}
 use Rattle.range.specs.declared.basic.Range.{Range}
@@ -14,6 +15,8 @@ use Rattle.eos.specs.Contributions.{contributions}
 use Rattle.eos.specs.Slopes.{started}
 use Rattle.case_record.specs.declared.case.Case.{Case}
 use Rattle.case_record.specs.Record.{case_of}
+use Rattle.refusal.specs.declared.Refusal.{Refusal}
+use Rattle.refusal.specs.declared.Refusal.TheVariants as Due
 use Rattle.checks.specs.Checks.{Checks, envelope, substances, state, first_failing}
 use Rattle.answer.specs.declared.Answer.{Answer}
 use Rattle.answer.specs.declared.Answer.TheVariants.{Energies, Ends, Slopes, Refused}
@@ -40,14 +43,14 @@ all p e = p e.hard_sphere && p e.reference && p e.attractive
 -- Code 9: "a value on the chosen path is not finite, or an elementary function has no rule for its argument".
 -- In the arithmetic `doubles` such a value is NaN, and so is what is worked from it: one of the three is NaN.
 abbrev pub arithmetic : Case → Checks
-arithmetic c = (9, all finite (energies_of c)) ∷ []
+arithmetic c = (Due.Arithmetic, all finite (energies_of c)) ∷ []
 
 -- Code 10: "a range rule below fails; only the ends call". In the arithmetic `ranges` such a rule gives a range that is not ok, and so is what is worked from it.
 -- Code 11: "a slope on the path is not finite, tested after 9". In the arithmetic `slopes` such a slope is NaN, and so is that of what is worked from it.
 abbrev pub beyond : Kind → Case → Checks
 beyond ForEnergies c = []
-beyond ForEnds c = (10, all Range.ok (ends_of c)) ∷ []
-beyond ForSlopes c = (11, all Dual.ok (slopes_of c)) ∷ []
+beyond ForEnds c = (Due.Ends, all Range.ok (ends_of c)) ∷ []
+beyond ForSlopes c = (Due.Slopes, all Dual.ok (slopes_of c)) ∷ []
 
 abbrev pub order : Kind → List ℕ → Checks
 order kind s = let c = case_of s in envelope s ++ (substances c ++ state c) ++ arithmetic c ++ beyond kind c
@@ -58,13 +61,24 @@ result_of ForEnergies c = let e = energies_of c in Energies e.hard_sphere e.refe
 result_of ForEnds c = let e = ends_of c in Ends e.hard_sphere e.reference e.attractive
 result_of ForSlopes c = let e = slopes_of c in Slopes e.hard_sphere e.reference e.attractive
 
--- where no test fails the answer, else the code
-unfoldable pub answered : ℕ → Answer → Answer
-answered code a = cond (eqb code 0) a (Refused code)
+-- where no test fails the answer, else why it is refused
+unfoldable pub tested : Checks → Answer → Result Answer Refusal
+tested tests a = result_and (first_failing tests) (Ok a)
 
 -- of a case that the checks of its record pass
-unfoldable pub worked_of : Kind → Case → Answer
-worked_of kind c = answered (first_failing (arithmetic c ++ beyond kind c)) (result_of kind c)
+unfoldable pub worked_of : Kind → Case → Result Answer Refusal
+worked_of kind c = tested (arithmetic c ++ beyond kind c) (result_of kind c)
+
+-- the same as an answer
+abbrev pub answered : Result Answer Refusal → Answer
+answered (Ok a) = a
+answered (Err refusal) = Refused refusal
 
 unfoldable pub answer_of : Kind → List ℕ → Answer
-answer_of kind s = answered (first_failing (order kind s)) (result_of kind (case_of s))
+answer_of kind s = answered (tested (order kind s) (result_of kind (case_of s)))
+
+-- ---- the same stage by stage: of the record, of its case, and of what is worked (crate's proofs, `stages`)
+abbrev pub staged : Kind → List ℕ → Result Answer Refusal
+staged kind s =
+    let c = case_of s in
+    result_and (first_failing (envelope s)) (result_and (first_failing (substances c)) (result_and (first_failing (state c)) (worked_of kind c)))

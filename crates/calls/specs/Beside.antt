@@ -1,6 +1,7 @@
 -- What M-100 says of a record's energies with slopes, beside its energies: "The value half must be the energies already shipped, to the bit", and 11 is "tested after 9".
 use Rattle.std.specs.Prelude.{◌≡◌, ◌⊎◌, Float}
 use Rattle.dual.specs.Rules.{dual}
+use Rattle.refusal.specs.declared.Refusal.TheVariants as Due
 use Rattle.answer.specs.declared.Answer.{Answer}
 use Rattle.answer.specs.declared.Answer.TheVariants.{Energies, Ends, Slopes, Refused}
 
@@ -14,7 +15,7 @@ pub record Sloped (x y z : Float) (slopes : Answer) : Type 0 where
 -- of the energies' answer and the slopes': what refuses the energies refuses the slopes, with its code, 9 among them; where there are energies, the slopes are of the same energies, or the
 -- code is 11
 abbrev pub Beside : Answer → Answer → Type 0
-Beside (Energies x y z) slopes = Sloped x y z slopes ⊎ (slopes ≡ Refused 11)
-Beside (Refused code) slopes = slopes ≡ Refused code
+Beside (Energies x y z) slopes = Sloped x y z slopes ⊎ (slopes ≡ Refused Due.Slopes)
+Beside (Refused refusal) slopes = slopes ≡ Refused refusal
 Beside (Ends x y z) slopes = ⊥
 Beside (Slopes x y z) slopes = ⊥

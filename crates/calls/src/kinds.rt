@@ -1,20 +1,18 @@
 // The calls by kind: what each answers to a record.
-ghost use Rattle.std.specs.Prelude.{◌≡◌, ◌&&◌, ◌≤◌, ◌++◌};
+ghost use Rattle.std.specs.Prelude.{◌≡◌, ◌&&◌};
 ghost use Rattle.std.specs.Float.Ieee.Scale.{finite};
-ghost use Rattle.checks.specs.Checks as Checks;
-ghost use Rattle.checks.specs.Checks.{first_failing};
-ghost use Rattle.calls.specs.Answers.{answer_of, answered, beyond, result_of, worked_of};
+ghost use Rattle.calls.specs.Answers.{answer_of, beyond, result_of, staged, tested, worked_of};
 ghost use Rattle.calls.specs.declared.kinds.Kind.TheVariants as Kinds;
 
 use answer::Answer;
-use case_record::case::{Case, case_of};
-use checks::{envelope, state, substances};
+use case_record::case::{BoundedCase, case_of};
+use checks::{envelope, require, state, substances};
 use eos::states::{sent, started};
 use operations::basic::is_finite;
-use uvtheory::contributions::Contributions;
+use refusal::Refusal;
 
 // What a call answers with: the three energies, their ends, or the energies with their slopes.
-#[derive(Clone, Copy)]
+#[derive(Clone, Copy, Debug, PartialEq, Eq)]
 pub enum Kind {
     Energies,
     Ends,
@@ -22,109 +20,82 @@ pub enum Kind {
 }
 
 // Whether the three are finite.
-fn are_finite(e: Contributions) -> bool
-    ensures { result ≡ (finite e.hard_sphere && finite e.reference && finite e.attractive) }
+fn are_finite(x: f64, y: f64, z: f64) -> bool
+    ensures { result ≡ (finite x && finite y && finite z) }
 {
-    is_finite(e.hard_sphere) & is_finite(e.reference) & is_finite(e.attractive)
+    is_finite(x) & is_finite(y) & is_finite(z)
 }
 
 // The energies of a case whose record the checks pass, or code 9.
-fn energies_of(c: Case) -> Answer
-    requires { c.mixture.n ≤ 8 }
-    ensures { result ≡ worked_of Kinds.Energies c }
+fn energies_of(c: BoundedCase) -> Result<Answer, Refusal>
+    ensures { result ≡ worked_of Kinds.Energies c.case }
 {
-    let perturbation = c.perturbation;
-    let mixture = c.mixture;
-    let state = c.state;
-    let e = eos::doubles::contributions(perturbation, mixture, state);
-    if are_finite(e) {
-        return Answer::Energies(e.hard_sphere, e.reference, e.attractive);
-    }
-    Answer::Refused(9)
+    let c = c.case;
+    let e = eos::doubles::contributions(c.perturbation, c.mixture, c.state);
+    require(
+        are_finite(e.hard_sphere, e.reference, e.attractive),
+        Refusal::Arithmetic,
+    )?;
+    Ok(Answer::Energies(e.hard_sphere, e.reference, e.attractive))
 }
 
 // The ranges of the three, or code 10.
-fn ranges_of(c: Case) -> Answer
-    requires { c.mixture.n ≤ 8 }
-    ensures { result ≡ answered (first_failing (beyond Kinds.Ends c)) (result_of Kinds.Ends c) }
+fn ranges_of(c: BoundedCase) -> Result<Answer, Refusal>
+    ensures { result ≡ tested (beyond Kinds.Ends c.case) (result_of Kinds.Ends c.case) }
 {
-    let perturbation = c.perturbation;
-    let mixture = c.mixture;
-    let state = c.state;
-    let e = eos::ranges::contributions(perturbation, mixture, sent(state));
-    let hard_sphere = e.hard_sphere;
-    let reference = e.reference;
-    let attractive = e.attractive;
-    if hard_sphere.is_ok() & reference.is_ok() & attractive.is_ok() {
-        return Answer::Ends(hard_sphere, reference, attractive);
-    }
-    Answer::Refused(10)
+    let c = c.case;
+    let e = eos::ranges::contributions(c.perturbation, c.mixture, sent(c.state));
+    require(
+        e.hard_sphere.is_ok() & e.reference.is_ok() & e.attractive.is_ok(),
+        Refusal::Ends,
+    )?;
+    Ok(Answer::Ends(e.hard_sphere, e.reference, e.attractive))
 }
 
 // The ends of a case. The energies are worked first: a case without them has no ends.
-fn ends_of(c: Case) -> Answer
-    requires { c.mixture.n ≤ 8 }
-    ensures { result ≡ worked_of Kinds.Ends c }
+fn ends_of(c: BoundedCase) -> Result<Answer, Refusal>
+    ensures { result ≡ worked_of Kinds.Ends c.case }
 {
-    let perturbation = c.perturbation;
-    let mixture = c.mixture;
-    let state = c.state;
-    let e = eos::doubles::contributions(perturbation, mixture, state);
-    if are_finite(e) {
-        return ranges_of(c);
-    }
-    Answer::Refused(9)
+    energies_of(c)?;
+    ranges_of(c)
 }
 
 // The energies with their slopes. Their values are the energies: code 9 is due by them, and before 11.
-fn slopes_of(c: Case) -> Answer
-    requires { c.mixture.n ≤ 8 }
-    ensures { result ≡ worked_of Kinds.Slopes c }
+fn slopes_of(c: BoundedCase) -> Result<Answer, Refusal>
+    ensures { result ≡ worked_of Kinds.Slopes c.case }
 {
-    let perturbation = c.perturbation;
-    let mixture = c.mixture;
-    let state = c.state;
-    let e = eos::slopes::contributions(perturbation, mixture, started(state));
-    let x = e.hard_sphere;
-    let y = e.reference;
-    let z = e.attractive;
-    if x.is_ok() & y.is_ok() & z.is_ok() {
-        return Answer::Slopes(x, y, z);
-    }
-    if is_finite(x.value) & is_finite(y.value) & is_finite(z.value) {
-        return Answer::Refused(11);
-    }
-    Answer::Refused(9)
+    let c = c.case;
+    let e = eos::slopes::contributions(c.perturbation, c.mixture, started(c.state));
+    require(
+        are_finite(e.hard_sphere.value, e.reference.value, e.attractive.value),
+        Refusal::Arithmetic,
+    )?;
+    require(
+        e.hard_sphere.is_ok() & e.reference.is_ok() & e.attractive.is_ok(),
+        Refusal::Slopes,
+    )?;
+    Ok(Answer::Slopes(e.hard_sphere, e.reference, e.attractive))
 }
 
-// The codes of a case's substances and of its state, or 0.
-fn refusal_of(c: Case) -> u8
-    requires { c.mixture.n ≤ 8 }
-    ensures { result ≡ first_failing (Checks.substances c ++ Checks.state c) }
+// The tests of a record, in their order, and the answer behind them.
+fn worked(kind: Kind, record: &[u8]) -> Result<Answer, Refusal>
+    ensures { result ≡ staged kind «record».now }
 {
-    let code = substances(c);
-    if code != 0 {
-        return code;
-    }
-    state(c)
-}
-
-// The answer to a record.
-pub fn answer_of(kind: Kind, record: &[u8]) -> Answer
-    ensures { result ≡ answer_of kind «record».now }
-{
-    let code = envelope(record);
-    if code != 0 {
-        return Answer::Refused(code);
-    }
+    envelope(record)?;
     let c = case_of(record);
-    let code = refusal_of(c);
-    if code != 0 {
-        return Answer::Refused(code);
-    }
+    substances(c)?;
+    state(c)?;
     match kind {
         Kind::Energies => energies_of(c),
         Kind::Ends => ends_of(c),
         Kind::Slopes => slopes_of(c),
     }
+}
+
+// The answer to a record.
+#[tactic(auto, unfolding(crate::specs::Answers::answer_of), using(crate::proofs::Answers::stages))]
+pub fn answer_of(kind: Kind, record: &[u8]) -> Answer
+    ensures { result ≡ answer_of kind «record».now }
+{
+    worked(kind, record).unwrap_or_else(|refusal| Answer::Refused(refusal))
 }

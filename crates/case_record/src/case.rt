@@ -16,6 +16,13 @@ pub struct Case {
     pub state: State,
 }
 
+// A case of at most 8 substances: its arrays have room for them.
+#[derive(Clone, Copy)]
+pub struct BoundedCase {
+    pub case: Case,
+    pub ghost few: { case.mixture.n ≤ 8 },
+}
+
 // The k-th double after n, counted from 0.
 fn double(record: &[u8], k: usize) -> f64
     requires { 13 + 8 * k ≤ length «record».now }
@@ -24,77 +31,72 @@ fn double(record: &[u8], k: usize) -> f64
     double_at(record, 5 + 8 * k)
 }
 
-// Puts the doubles at first, first + step, .. into the first `count` places of `out`.
-fn read_column(record: &[u8], first: usize, step: usize, count: usize, out: &mut [f64])
-    requires by_index { (i : ℕ) → i < count → 13 + 8 * (first + step * i) ≤ length «record».now }
-    requires count_in_bounds { count ≤ length out.old }
-    ensures { out.new ≡ values count (column «record».now first step) ++ drop count out.old }
+// Puts the doubles at first, first + step, .. into `out`.
+fn read_column(record: &[u8], first: usize, step: usize, out: &mut [f64])
+    requires { (i : ℕ) → i < length out.old → 13 + 8 * (first + step * i) ≤ length «record».now }
+    ensures { out.new ≡ values (length out.old) (column «record».now first step) }
 {
-    for i in 0..count {
-        out[i] = double(record, first + step * i);
+    for (i, x) in out.iter_mut().enumerate() {
+        *x = double(record, first + step * i);
     }
 }
 
-// The same as an array of 8, with +0 behind the n values.
-fn row8(record: &[u8], first: usize, step: usize, n: usize) -> [f64; 8]
-    requires { (n ≤ 8) × ((i : ℕ) → i < n → 13 + 8 * (first + step * i) ≤ length «record».now) }
-    ensures { result ≡ row 8 n (column «record».now first step) }
+// The first n of them in an array, with +0 behind them.
+fn row<const SIZE: usize>(record: &[u8], first: usize, step: usize, n: usize) -> [f64; SIZE]
+    requires { (n ≤ SIZE) × ((i : ℕ) → i < n → 13 + 8 * (first + step * i) ≤ length «record».now) }
+    ensures { result ≡ row SIZE n (column «record».now first step) }
 {
-    let mut out = [0.0; 8];
-    read_column(record, first, step, n, &mut out);
+    let mut out = [0.0; SIZE];
+    read_column(record, first, step, &mut out[..n]);
     out
 }
 
+#[tactic(auto, unfolding(crate::specs::Record::mixture_of))]
 pub fn mixture_of(record: &[u8], h: Header) -> Mixture
     requires { Whole «record».now h }
     ensures { result ≡ mixture_of «record».now h }
 {
     let n = h.n;
-    let l = layout_of(h);
-    let rep = row8(record, 0, 4, n);
-    let att = row8(record, 1, 4, n);
-    let sigma = row8(record, 2, 4, n);
-    let epsilon_k = row8(record, 3, 4, n);
-    let mut k_ij = [0.0; 28];
-    read_column(record, l.k_ij, 1, pairs(n), &mut k_ij);
     Mixture {
         n,
-        rep,
-        att,
-        sigma,
-        epsilon_k,
-        k_ij,
+        rep: row(record, 0, 4, n),
+        att: row(record, 1, 4, n),
+        sigma: row(record, 2, 4, n),
+        epsilon_k: row(record, 3, 4, n),
+        k_ij: row(record, layout_of(h).k_ij, 1, pairs(n)),
     }
 }
 
+#[tactic(auto, unfolding(crate::specs::Record::state_of))]
 pub fn state_of(record: &[u8], h: Header) -> State
     requires { Whole «record».now h }
     ensures { result ≡ state_of «record».now h }
 {
-    let n = h.n;
     let l = layout_of(h);
-    let temperature = double(record, l.temperature);
-    let partial_density = row8(record, l.partial_density, 1, n);
-    let molefracs = row8(record, l.molefracs, 1, n);
     State {
-        temperature,
-        partial_density,
-        molefracs,
+        temperature: double(record, l.temperature),
+        partial_density: row(record, l.partial_density, 1, h.n),
+        molefracs: row(record, l.molefracs, 1, h.n),
     }
 }
 
-// The case of a record that the checks 2, 5 and 6 pass.
-pub fn case_of(record: &[u8]) -> Case
+// The case of a record that the checks 2, 5 and 6 pass. A byte that names no perturbation, which check 4 refuses, counts as WCA-B3.
+#[tactic(auto, unfolding(crate::specs::Record::mixture_of))]
+pub fn case_of(record: &[u8]) -> BoundedCase
     requires { Whole «record».now (header_of «record».now) }
-    ensures { result ≡ case_of «record».now }
+    ensures { result.case ≡ case_of «record».now }
 {
     let h = header_of(record);
     let mixture = mixture_of(record, h);
     let state = state_of(record, h);
-    let perturbation = perturbation_of(h.perturbation);
-    Case {
-        perturbation,
-        mixture,
-        state,
+    let perturbation = perturbation_of(h.perturbation).unwrap_or(
+        Perturbation::WeeksChandlerAndersenB3,
+    );
+    BoundedCase {
+        case: Case {
+            perturbation,
+            mixture,
+            state,
+        },
     }
 }

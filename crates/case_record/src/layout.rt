@@ -1,5 +1,5 @@
 // The layout of a case record: its header, the places of its doubles, its length.
-ghost use Rattle.std.specs.Prelude.{◌≡◌, ◌≤◌, length};
+ghost use Rattle.std.specs.Prelude.{◌≡◌, ◌≤◌, cond, length};
 ghost use Rattle.case_record.specs.Layout.{header_of, is_perturbation, layout_of, length_of, pairs, perturbation_of};
 
 use uvtheory::eos::Perturbation;
@@ -33,21 +33,15 @@ pub fn header_of(record: &[u8]) -> Header
     }
 }
 
-// Whether a byte names a perturbation.
-pub fn is_perturbation(byte: u8) -> bool
-    ensures { result ≡ is_perturbation byte }
-{
-    byte <= 2
-}
-
-// What a byte that does so means.
-pub fn perturbation_of(byte: u8) -> Perturbation
-    ensures { result ≡ perturbation_of byte }
+// The perturbation that a byte names, if there is one.
+pub fn perturbation_of(byte: u8) -> Option<Perturbation>
+    ensures { result ≡ cond (is_perturbation byte) (Some (perturbation_of byte)) None }
 {
     match byte {
-        0 => Perturbation::BarkerHenderson,
-        1 => Perturbation::WeeksChandlerAndersen,
-        _ => Perturbation::WeeksChandlerAndersenB3,
+        0 => Some(Perturbation::BarkerHenderson),
+        1 => Some(Perturbation::WeeksChandlerAndersen),
+        2 => Some(Perturbation::WeeksChandlerAndersenB3),
+        _ => None,
     }
 }
 
@@ -56,10 +50,7 @@ pub fn pairs(n: usize) -> usize
     requires { n ≤ 8 }
     ensures { (result ≡ pairs n) × (result ≤ 28) }
 {
-    if n == 0 {
-        return 0;
-    }
-    n * (n - 1) / 2
+    n * n.saturating_sub(1) / 2
 }
 
 pub fn layout_of(h: Header) -> Layout

@@ -1,3 +1,4 @@
--- What follows from checks that pass, and examples.
+-- Laws of the tests, what follows from checks that pass, and examples.
+pub mod Inside
 pub mod Accepted
 pub mod Examples

@@ -1,5 +1,5 @@
 -- The checks of a case record, in stages: the envelope, the substances, the state. The calls put them together in document 01's order, and stop behind the stage that they need.
-use Rattle.std.specs.Prelude.{ℕ, zero, suc, ◌+◌, ◌-◌, ◌^◌, ◌≡◌, refl, Bool, true, false, not, ◌&&◌, cond, List, [], ◌∷◌, length, get_or, leb, eqb, Float}
+use Rattle.std.specs.Prelude.{ℕ, zero, suc, ◌+◌, ◌-◌, ◌^◌, ◌≡◌, refl, Bool, true, false, not, ◌&&◌, cond, List, [], ◌∷◌, length, get_or, leb, eqb, Float, Result, Ok, Err}
 use Rattle.std.specs.Float.{nan, inf, binary64}
 use Rattle.std.specs.Float.Ieee.{of_bits, round, le}
 use Rattle.arithmetic.specs.Constants.{bits}
@@ -8,6 +8,8 @@ use Rattle.uvtheory.specs.declared.parameters.Mixture.{Mixture}
 use Rattle.uvtheory.specs.declared.parameters.State.{State}
 use Rattle.case_record.specs.declared.case.Case.{Case}
 use Rattle.case_record.specs.Layout.{length_field, header_of, is_perturbation, pairs, length_of}
+use Rattle.refusal.specs.declared.Refusal.{Refusal}
+use Rattle.refusal.specs.declared.Refusal.TheVariants as Due
 use Rattle.checks.specs.declared.Interval.{Interval}
 
 -- ---- "Intervals are closed. NaN and infinities lie in none; −0 counts as 0."
@@ -103,28 +105,28 @@ state_inside n t =
     all_inside fraction n t.molefracs &&
     inside fraction_sum (guarded.sum n (λ i. get_or t.molefracs i nan))
 
--- ---- the stages of document 01's table: each code with a test, which fails where the code applies
+-- ---- the stages of document 01's table: each code (crate `refusal`) with a test, which fails where the code applies
 abbrev pub Checks : Type 0
-Checks = List (ℕ × Bool)
+Checks = List (Refusal × Bool)
 
 -- "record under 5 bytes, or length is not its bytes less 2", "not 1", "above 2", "n not 1 to 8", "length not that of n"
 abbrev pub envelope : List ℕ → Checks
 envelope s =
     let h = header_of s in
-    (2, leb 5 (length s) && eqb (length_field s) (length s - 2)) ∷
-    (3, eqb h.version 1) ∷
-    (4, is_perturbation h.perturbation) ∷
-    (5, leb 1 h.n && leb h.n 8) ∷
-    (6, eqb (length_field s) (length_of h)) ∷
+    (Due.Envelope, leb 5 (length s) && eqb (length_field s) (length s - 2)) ∷
+    (Due.Version, eqb h.version 1) ∷
+    (Due.Perturbation, is_perturbation h.perturbation) ∷
+    (Due.Components, leb 1 h.n && leb h.n 8) ∷
+    (Due.Size, eqb (length_field s) (length_of h)) ∷
     []
 
 abbrev pub substances : Case → Checks
-substances c = (7, substances_inside c.mixture) ∷ []
+substances c = (Due.Substances, substances_inside c.mixture) ∷ []
 
 abbrev pub state : Case → Checks
-state c = (8, state_inside c.mixture.n c.state) ∷ []
+state c = (Due.State, state_inside c.mixture.n c.state) ∷ []
 
--- the code of the first test that fails, or 0
-abbrev pub first_failing : Checks → ℕ
-first_failing [] = 0
-first_failing ((code, passes) ∷ rest) = cond passes (first_failing rest) code
+-- what the first test that fails is due to, if one does
+abbrev pub first_failing : Checks → Result (Unit {0}) Refusal
+first_failing [] = Ok tt
+first_failing ((refusal, passes) ∷ rest) = cond passes (first_failing rest) (Err refusal)

@@ -1,14 +1,15 @@
 // The checks of a record, in stages: the envelope, the substances, the state.
 #![tactic(auto)]
 
-ghost use Rattle.std.specs.Prelude.{◌≡◌, ◌≤◌, length};
-ghost use Rattle.checks.specs.Checks.{all_inside, envelope, first_failing, inside, state, state_inside, substances, substances_inside};
+ghost use Rattle.std.specs.Prelude.{◌≡◌, [], ◌∷◌};
+ghost use Rattle.std.specs.List.{list_all};
+ghost use Rattle.checks.specs.Checks.{envelope, first_failing, inside, state, state_inside, substances, substances_inside};
 
 use big_endian::big_endian2;
-use case_record::case::Case;
-use case_record::layout::{header_of, is_perturbation, length_of, pairs};
+use case_record::case::BoundedCase;
+use case_record::layout::{header_of, length_of, pairs, perturbation_of};
+use refusal::Refusal;
 use uvtheory::hard_sphere::sum;
-use uvtheory::parameters::{Mixture, State};
 
 // A closed interval: its lower and its upper limit.
 #[derive(Clone, Copy)]
@@ -32,100 +33,80 @@ const FRACTION: Interval = Interval(0.0, 1.0);
 // 1 - 2^-40 and 1 + 2^-40.
 const FRACTION_SUM: Interval = Interval(0.9999999999990905, 1.0000000000009095);
 
-// Whether x lies in the interval; NaN does not.
-fn inside(i: Interval, x: f64) -> bool
-    ensures { result ≡ inside i x }
-{
-    (i.0 <= x) & (x <= i.1)
-}
-
-// Whether each of the first n values does.
-fn all_inside(i: Interval, n: usize, values: &[f64]) -> bool
-    requires { n ≤ length values.now }
-    ensures { result ≡ all_inside i n values.now }
-{
-    let mut all = true;
-    for k in 0..n {
-        all = all & inside(i, values[k]);
+impl Interval {
+    // Whether x lies in the interval; NaN does not.
+    fn contains(self, x: f64) -> bool
+        ensures { result ≡ inside self x }
+    {
+        (self.0 <= x) & (x <= self.1)
     }
-    all
+
+    // Whether each of several values does.
+    fn contains_all(self, values: &[f64]) -> bool
+        ensures { result ≡ list_all (inside self) values.now }
+    {
+        values.iter().all(|x| self.contains(*x))
+    }
 }
 
-fn substances_inside(m: Mixture) -> bool
-    requires { m.n ≤ 8 }
-    ensures { result ≡ substances_inside m }
+#[tactic(auto, unfolding(crate::specs::Checks::substances_inside), using(crate::proofs::Inside::of_the_first))]
+fn substances_inside(c: BoundedCase) -> bool
+    ensures { result ≡ substances_inside c.case.mixture }
 {
-    let n = m.n;
-    let rep = m.rep;
-    let att = m.att;
-    let sigma = m.sigma;
-    let epsilon_k = m.epsilon_k;
-    let k_ij = m.k_ij;
-    all_inside(REP, n, &rep)
-        & all_inside(ATT, n, &att)
-        & all_inside(SIGMA, n, &sigma)
-        & all_inside(EPSILON_K, n, &epsilon_k)
-        & all_inside(K_IJ, pairs(n), &k_ij)
+    let m = c.case.mixture;
+    REP.contains_all(&m.rep[..m.n])
+        & ATT.contains_all(&m.att[..m.n])
+        & SIGMA.contains_all(&m.sigma[..m.n])
+        & EPSILON_K.contains_all(&m.epsilon_k[..m.n])
+        & K_IJ.contains_all(&m.k_ij[..pairs(m.n)])
 }
 
-// Of n substances.
-fn state_inside(n: usize, t: State) -> bool
-    requires { n ≤ 8 }
-    ensures { result ≡ state_inside n t }
+#[tactic(auto, unfolding(crate::specs::Checks::state_inside), using(crate::proofs::Inside::of_the_first))]
+fn state_inside(c: BoundedCase) -> bool
+    ensures { result ≡ state_inside c.case.mixture.n c.case.state }
 {
-    let density = t.partial_density;
-    let fraction = t.molefracs;
-    inside(TEMPERATURE, t.temperature)
-        & all_inside(DENSITY, n, &density)
-        & all_inside(FRACTION, n, &fraction)
-        & inside(FRACTION_SUM, sum(n, &fraction))
+    let n = c.case.mixture.n;
+    let state = c.case.state;
+    TEMPERATURE.contains(state.temperature)
+        & DENSITY.contains_all(&state.partial_density[..n])
+        & FRACTION.contains_all(&state.molefracs[..n])
+        & FRACTION_SUM.contains(sum(n, &state.molefracs))
+}
+
+// A test of the table, with what is due where it fails.
+pub fn require(passes: bool, refusal: Refusal) -> Result<(), Refusal>
+    ensures { result ≡ first_failing ((refusal, passes) ∷ []) }
+{
+    if passes { Ok(()) } else { Err(refusal) }
 }
 
 // The codes 2 to 6. Only the bytes that the checks before have shown to be there are read.
-pub fn envelope(record: &[u8]) -> u8
+pub fn envelope(record: &[u8]) -> Result<(), Refusal>
     ensures { result ≡ first_failing (envelope «record».now) }
 {
-    if record.len() < 5 {
-        return 2;
-    }
+    require(record.len() >= 5, Refusal::Envelope)?;
     let length = big_endian2(record, 0);
-    if length != record.len() - 2 {
-        return 2;
-    }
+    require(length == record.len() - 2, Refusal::Envelope)?;
     let h = header_of(record);
-    if h.version != 1 {
-        return 3;
-    }
-    if !is_perturbation(h.perturbation) {
-        return 4;
-    }
-    if h.n < 1 {
-        return 5;
-    }
-    if h.n > 8 {
-        return 5;
-    }
-    if length != length_of(h) {
-        return 6;
-    }
-    0
+    require(h.version == 1, Refusal::Version)?;
+    require(
+        perturbation_of(h.perturbation).is_some(),
+        Refusal::Perturbation,
+    )?;
+    require((1 <= h.n) & (h.n <= 8), Refusal::Components)?;
+    require(length == length_of(h), Refusal::Size)
 }
 
 // The code 7.
-pub fn substances(c: Case) -> u8
-    requires { c.mixture.n ≤ 8 }
-    ensures { result ≡ first_failing (substances c) }
+pub fn substances(c: BoundedCase) -> Result<(), Refusal>
+    ensures { result ≡ first_failing (substances c.case) }
 {
-    let m = c.mixture;
-    if substances_inside(m) { 0 } else { 7 }
+    require(substances_inside(c), Refusal::Substances)
 }
 
 // The code 8.
-pub fn state(c: Case) -> u8
-    requires { c.mixture.n ≤ 8 }
-    ensures { result ≡ first_failing (state c) }
+pub fn state(c: BoundedCase) -> Result<(), Refusal>
+    ensures { result ≡ first_failing (state c.case) }
 {
-    let m = c.mixture;
-    let t = c.state;
-    if state_inside(m.n, t) { 0 } else { 8 }
+    require(state_inside(c), Refusal::State)
 }

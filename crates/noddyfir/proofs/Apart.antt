@@ -12,9 +12,7 @@ use borrow.Author.Tests.{le-leb, ne_eqb, le-ltb}
 use Rattle.big_endian.specs.Bytes.{big_endian, written}
 use Rattle.calls.specs.declared.kinds.Kind.{Kind}
 use Rattle.noddyfir.specs.Call.{answer_to, call_buffer, room_of}
-use Rattle.noddyfir.specs.declared.reader.Next.{Next}
-use Rattle.noddyfir.specs.declared.reader.Next.TheVariants.{UsedUp, Broken, Whole}
-use Rattle.noddyfir.specs.Run.{Outcome, after, next_of, run_from, run_of, stopped}
+use Rattle.noddyfir.specs.Run.{Next, UsedUp, Broken, Whole, Outcome, after, next_of, run_from, run_of, stopped}
 use Rattle.noddyfir.specs.Apart.{Answered, Apart, Record, Records, joined, place_after}
 use Rattle.noddyfir.proofs.Running.{whole_is, whole_size}
 

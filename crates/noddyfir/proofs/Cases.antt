@@ -16,7 +16,7 @@ use Rattle.uvtheory.specs.Rows.{row}
 use Rattle.big_endian.specs.Bytes.{big_endian, bytes_of}
 use Rattle.case_record.specs.Layout as Layout
 use Rattle.case_record.specs.Layout.{length_at}
-use Rattle.calls.specs.Answers.{answer_of, answered}
+use Rattle.calls.specs.Answers.{answer_of, tested}
 use Rattle.noddyfir.specs.Call.{ends_answer, energies_answer, slopes_answer}
 use Rattle.noddyfir.specs.Run.{Outcome, run_from, run_of}
 
@@ -67,15 +67,15 @@ unfolding Root.sqrt of_bits round add sub mul
 combined = (refl, refl, refl, refl)
 
 energies_run : run_of 28 energies_answer seven_bytes (replicate 60 0xAA) ≡ both_refused
-unfolding run_from answer_of answered big_endian bytes_of
+unfolding run_from answer_of tested big_endian bytes_of
 energies_run = refl
 
 ends_run : run_of 52 ends_answer seven_bytes (replicate 60 0xAA) ≡ both_refused
-unfolding run_from answer_of answered big_endian bytes_of
+unfolding run_from answer_of tested big_endian bytes_of
 ends_run = refl
 
 slopes_run : run_of 52 slopes_answer seven_bytes (replicate 60 0xAA) ≡ both_refused
-unfolding run_from answer_of answered big_endian bytes_of
+unfolding run_from answer_of tested big_endian bytes_of
 slopes_run = refl
 
 pub table : Table

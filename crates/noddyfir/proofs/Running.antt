@@ -11,10 +11,8 @@ use lib.Dec.{leb, eqb, ltb}
 use borrow.Author.Tests.{le-leb, lt-leb, eq-eqb, ne_eqb, lt-ltb, le-ltb, leb-true}
 use Rattle.big_endian.specs.Bytes.{big_endian, written}
 use Rattle.noddyfir.specs.Call.{call_buffer, call_code}
-use Rattle.noddyfir.specs.declared.reader.Next.{Next}
-use Rattle.noddyfir.specs.declared.reader.Next.TheVariants.{UsedUp, Broken, Whole}
 use Rattle.noddyfir.specs.declared.run.Run.{Run}
-use Rattle.noddyfir.specs.Run.{Outcome, after, next_of, run_from, run_of, size_of, stopped}
+use Rattle.noddyfir.specs.Run.{Next, UsedUp, Broken, Whole, Outcome, after, next_of, run_from, run_of, size_of, stopped}
 
 -- ---- the front of the bytes left
 module _ (t : List ℕ) where

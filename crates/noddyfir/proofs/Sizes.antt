@@ -15,7 +15,12 @@ use Rattle.answer.specs.declared.Answer.TheVariants.{Refused}
 use Rattle.answer.specs.Answer.{answer_bytes, code_of}
 use Rattle.calls.specs.declared.kinds.Kind.{Kind}
 use Rattle.calls.specs.declared.kinds.Kind.TheVariants.{Energies as ForEnergies, Ends as ForEnds, Slopes as ForSlopes}
-use Rattle.calls.specs.Answers.{answer_of, answered, order, result_of}
+use Rattle.std.specs.Prelude.{Result, Ok, Err}
+use Rattle.std.specs.Result.{result_and}
+use Rattle.refusal.specs.declared.Refusal.{Refusal}
+use Rattle.refusal.specs.declared.Refusal.TheVariants as Due
+use Rattle.refusal.specs.Code.{code}
+use Rattle.calls.specs.Answers.{answer_of, answered, order, result_of, tested}
 use Rattle.noddyfir.specs.Call.{answer_to, code_to, room_of}
 use Rattle.noddyfir.specs.Run.{size_of}
 
@@ -28,18 +33,32 @@ sized_result ForEnergies c = record { bytes = refl }
 sized_result ForEnds c = record { bytes = refl }
 sized_result ForSlopes c = record { bytes = refl }
 
--- a refusal's four bytes, or those of the answer behind the code
-sized_answered : {room : ℕ} {a : Answer} (code : ℕ) → Sized room a → Sized room (answered code a)
-unfolding answered bytes_of
-sized_answered {room} {a} code h = go (eqb code 0) refl
+-- a refusal's four bytes, whose code is not 0
+sized_refusal : (room : ℕ) (refusal : Refusal) → Sized room (Refused refusal)
+unfolding bytes_of
+sized_refusal room refusal = record { bytes = sym (ap (λ (b : Bool). cond b room 4) (not_zero refusal)) }
   where
-    go : (b : Bool) → eqb code 0 ≡ b → Sized room (cond b a (Refused code))
-    go true e = h
-    go false e = record { bytes = sym (ap (λ (b : Bool). cond b room 4) e) }
+    not_zero : (refusal : Refusal) → eqb (code refusal) 0 ≡ false
+    not_zero Due.AnswerBuffer = refl
+    not_zero Due.Envelope = refl
+    not_zero Due.Version = refl
+    not_zero Due.Perturbation = refl
+    not_zero Due.Components = refl
+    not_zero Due.Size = refl
+    not_zero Due.Substances = refl
+    not_zero Due.State = refl
+    not_zero Due.Arithmetic = refl
+    not_zero Due.Ends = refl
+    not_zero Due.Slopes = refl
+
+-- or those of the answer behind the tests
+sized_tested : {room : ℕ} {a : Answer} (r : Result (Unit {0}) Refusal) → Sized room a → Sized room (answered (result_and r (Ok a)))
+sized_tested (Ok t) h = h
+sized_tested {room} (Err refusal) h = sized_refusal room refusal
 
 pub answers_sized : (kind : Kind) (s : List ℕ) → length (answer_to kind s) ≡ size_of (room_of kind) (code_to kind s)
-unfolding answer_of
-answers_sized kind s = (sized_answered (first_failing (order kind s)) (sized_result kind (case_of s))).bytes
+unfolding answer_of tested
+answers_sized kind s = (sized_tested (first_failing (order kind s)) (sized_result kind (case_of s))).bytes
 
 pub size_fits : (room code : ℕ) → 4 ≤ room → size_of room code ≤ room
 size_fits room code h = go (eqb code 0)

@@ -3,12 +3,16 @@
 use Rattle.std.specs.Prelude.{ℕ, zero, suc, ◌+◌, List, ◌++◌, cond, ◌&&◌, length, take, drop, ltb, leb, eqb}
 use Rattle.big_endian.specs.Bytes.{big_endian}
 use Rattle.noddyfir.specs.declared.run.Run.{Run}
-use Rattle.noddyfir.specs.declared.reader.Next.{Next}
-use Rattle.noddyfir.specs.declared.reader.Next.TheVariants.{UsedUp, Broken, Whole}
+use Rattle.noddyfir.specs.declared.run.Stop.{Stop}
 
 -- ---- the input: "one whole record at a time"
 -- What stands at the front of the bytes left: "0 input used up; 2 broken tail (under 2 bytes left, or length past the end)", or else a whole record,
 -- which has 2 bytes more than its length says.
+pub data Next : Type 0 where
+  UsedUp : Next
+  Broken : Next
+  Whole : ℕ → Next
+
 abbrev pub next_of : List ℕ → Next
 next_of s =
     let size = 2 + big_endian s 0 2 in
@@ -19,6 +23,12 @@ abbrev pub next_at : List ℕ → ℕ → Next
 next_at s at = next_of (drop at s)
 
 -- ---- the run
+-- "0 input used up; 2 broken tail (..); 1 under 28 (or 52) answer bytes left"
+abbrev pub reason_of : Stop → ℕ
+reason_of Stop.UsedUp = 0
+reason_of Stop.NoRoom = 1
+reason_of Stop.BrokenTail = 2
+
 -- "It returns records done, bytes read, bytes written, reason", and leaves the answer buffer.
 pub record Outcome : Type 0 where
   pub run : Run

@@ -5,6 +5,7 @@ ghost use Rattle.calls.specs.declared.kinds.Kind.TheVariants as Kinds;
 
 use answer::write_answer;
 use calls::kinds::{Kind, answer_of};
+use refusal::Refusal;
 
 // How many bytes an answer of a kind may need.
 pub fn room_of(kind: Kind) -> usize
@@ -22,10 +23,9 @@ pub fn answer_to(kind: Kind, record: &[u8], answer: &mut [u8]) -> u8
     ensures { (result ≡ call_code (room_of kind) (code_to kind «record».now) answer.old) × (answer.new ≡ call_buffer (room_of kind) (answer_to kind «record».now) answer.old) }
 {
     if answer.len() < room_of(kind) {
-        return 1;
+        return Refusal::AnswerBuffer.into();
     }
-    let a = answer_of(kind, record);
-    write_answer(answer, a)
+    write_answer(answer, answer_of(kind, record))
 }
 
 pub fn energies(record: &[u8], answer: &mut [u8]) -> u8

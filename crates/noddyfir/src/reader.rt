@@ -1,7 +1,6 @@
-// The reader of a run: the bytes of its records, lent, and a position in them. What it finds is worked by `next_at` and `record_at`, on the slice and the
-// position; `next_from` and `record_from` serve the run, so that the struct is named nowhere else.
-ghost use Rattle.std.specs.Prelude.{◌≡◌, ◌+◌, ◌≤◌, drop, length, take};
-ghost use Rattle.noddyfir.specs.Run.{next_at};
+// The reader of a run: the bytes of its records, lent, and a position in them.
+ghost use Rattle.std.specs.Prelude.{◌≡◌, ◌+◌, ◌≤◌, MatchOption, MatchResult, drop, length, take};
+ghost use Rattle.noddyfir.specs.Run.{Broken, UsedUp, Whole, next_at};
 
 use big_endian::big_endian2;
 
@@ -11,39 +10,9 @@ pub struct Reader<'a> {
     at: usize,
 }
 
-// What follows in the input: nothing, a broken tail, or a whole record of so many bytes.
-#[derive(Clone, Copy)]
-pub enum Next {
-    UsedUp,
-    Broken,
-    Whole(usize),
-}
-
-// What follows at a position of the records.
-fn next_at(records: &[u8], at: usize) -> Next
-    ensures { result ≡ next_at records.now at }
-{
-    if records.len() <= at {
-        return Next::UsedUp;
-    }
-    let left = records.len() - at;
-    if left < 2 {
-        return Next::Broken;
-    }
-    let size = 2 + big_endian2(records, at);
-    if size > left {
-        return Next::Broken;
-    }
-    Next::Whole(size)
-}
-
-// The record of `size` bytes at a position of the records.
-fn record_at<'a>(records: &'a [u8], at: usize, size: usize) -> &'a [u8]
-    requires { at + size ≤ length records.now }
-    ensures { result.now ≡ take size (drop at records.now) }
-{
-    &records[at..at + size]
-}
+// Bytes at the end that are no whole record.
+#[derive(Clone, Copy, Debug, PartialEq, Eq)]
+pub struct BrokenTail;
 
 impl<'a> Reader<'a> {
     pub fn new(src: &'a [u8], at: usize) -> Reader<'a>
@@ -52,33 +21,21 @@ impl<'a> Reader<'a> {
         Reader { src, at }
     }
 
-    // What follows.
-    pub fn next(self) -> Next
-        ensures { result ≡ next_at self.entry.src.now self.entry.at }
+    // The record at the position, if bytes are left.
+    pub fn next(self) -> Option<Result<&'a [u8], BrokenTail>>
+        ensures { MatchOption result (next_at self.entry.src.now self.entry.at ≡ UsedUp) (λ found. MatchResult found (λ r. (next_at self.entry.src.now self.entry.at ≡ Whole (length r.now)) × (r.now ≡ take (length r.now) (drop self.entry.at self.entry.src.now))) (λ _. next_at self.entry.src.now self.entry.at ≡ Broken)) }
     {
-        next_at(self.src, self.at)
+        if self.src.len() <= self.at {
+            return None;
+        }
+        let left = self.src.len() - self.at;
+        if left < 2 {
+            return Some(Err(BrokenTail));
+        }
+        let size = 2 + big_endian2(self.src, self.at);
+        if size > left {
+            return Some(Err(BrokenTail));
+        }
+        Some(Ok(&self.src[self.at..self.at + size]))
     }
-
-    // The record of `size` bytes that follows.
-    pub fn read(self, size: usize) -> &'a [u8]
-        requires { self.at + size ≤ length self.src.now }
-        ensures { result.now ≡ take size (drop self.entry.at self.entry.src.now) }
-    {
-        record_at(self.src, self.at, size)
-    }
-}
-
-// What a reader finds at a position. An enum holds no reference, so the record's bytes are a second call's.
-pub fn next_from(records: &[u8], at: usize) -> Next
-    ensures { result ≡ next_at records.now at }
-{
-    Reader::new(records, at).next()
-}
-
-// The record that a reader hands out at a position.
-pub fn record_from<'a>(records: &'a [u8], at: usize, size: usize) -> &'a [u8]
-    requires { at + size ≤ length records.now }
-    ensures { result.now ≡ take size (drop at records.now) }
-{
-    Reader::new(records, at).read(size)
 }

@@ -1,15 +1,15 @@
 // A run over case records, one after the other.
 ghost use Rattle.std.specs.Prelude.{◌≡◌, ◌≤◌, length};
 ghost use Rattle.noddyfir.specs.Call.{answer_to, ends_answer, energies_answer, room_of, slopes_answer};
-ghost use Rattle.noddyfir.specs.Run.{run_of, size_of};
+ghost use Rattle.noddyfir.specs.Run.{reason_of, run_of, size_of};
 
 use crate::call::{answer_to, room_of};
-use crate::reader::{Next, next_from, record_from};
+use crate::reader::{BrokenTail, Reader};
 use calls::kinds::Kind;
 
-// Records done, bytes read, bytes written, and why the run stopped: 0 input used up, 2 broken tail, 1 no room for an answer.
+// Records done, bytes read, bytes written, and why the run stopped, as the number of a `Stop`.
 #[repr(C)]
-#[derive(Clone, Copy)]
+#[derive(Clone, Copy, Debug, PartialEq, Eq)]
 pub struct Run {
     pub records: usize,
     pub read: usize,
@@ -17,15 +17,23 @@ pub struct Run {
     pub reason: u8,
 }
 
-// The run that stops here.
-fn stopped(records: usize, read: usize, written: usize, reason: u8) -> Run
-    ensures { result ≡ record { records = records; read = read; written = written; reason = reason } }
-{
-    Run {
-        records,
-        read,
-        written,
-        reason,
+// Why a run stops: the input is used up, there is no room for an answer, or the tail of the input is no whole record.
+#[derive(Clone, Copy, Debug, PartialEq, Eq)]
+pub enum Stop {
+    UsedUp = 0,
+    NoRoom = 1,
+    BrokenTail = 2,
+}
+
+impl Run {
+    // The same run, stopped.
+    fn stopped(self, stop: Stop) -> Run
+        ensures { result ≡ record self { reason = reason_of stop } }
+    {
+        Run {
+            reason: stop as u8,
+            ..self
+        }
     }
 }
 
@@ -44,28 +52,25 @@ pub fn run_records(kind: Kind, records: &[u8], answers: &mut [u8]) -> Run
     ensures within { (result.read ≤ length records.now) × (result.written ≤ length answers.new) }
 {
     let room = room_of(kind);
-    let mut done = 0;
-    let mut read = 0;
-    let mut written = 0;
+    let mut run = Run {
+        records: 0,
+        read: 0,
+        written: 0,
+        reason: 0,
+    };
     loop {
-        match next_from(records, read) {
-            Next::UsedUp => {
-                return stopped(done, read, written, 0);
-            }
-            Next::Broken => {
-                return stopped(done, read, written, 2);
-            }
-            Next::Whole(size) => {
-                if answers.len() - written < room {
-                    return stopped(done, read, written, 1);
-                }
-                let record = record_from(records, read, size);
-                let code = answer_to(kind, record, &mut answers[written..]);
-                written += answer_size(room, code);
-                read += size;
-                done += 1;
-            }
+        let record = match Reader::new(records, run.read).next() {
+            None => return run.stopped(Stop::UsedUp),
+            Some(Err(BrokenTail)) => return run.stopped(Stop::BrokenTail),
+            Some(Ok(record)) => record,
+        };
+        if answers.len() - run.written < room {
+            return run.stopped(Stop::NoRoom);
         }
+        let code = answer_to(kind, record, &mut answers[run.written..]);
+        run.written += answer_size(room, code);
+        run.read += record.len();
+        run.records += 1;
     }
 }
 

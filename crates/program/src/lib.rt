@@ -4,7 +4,7 @@
 ghost use Rattle.std.specs.Prelude.{◌≡◌, ◌+◌, ◌≤◌, ◌<◌, IfOk, length};
 
 use calls::kinds::Kind;
-use noddyfir::run::{Run, run_records};
+use noddyfir::run::{Run, Stop, run_records};
 use std::io;
 use std::io::{Read, Write};
 
@@ -39,7 +39,7 @@ fn answer_all(output: &mut impl Write, kind: Kind, input: &[u8]) -> io::Result<(
     let mut at = 0;
     loop {
         let run = answer_from(output, kind, input, at)?;
-        if run.reason != 1 {
+        if run.reason != Stop::NoRoom as u8 {
             return Ok(());
         }
         at += run.read;

@@ -1,13 +1,13 @@
--- By what the test of the three energies says.
-use mathlib.Core.Path.{◌∙◌}
-use Rattle.calls.specs.declared.kinds.Kind.TheVariants.{Ends as ForEnds}
-use Rattle.calls.proofs.Answers.{ends_worked, not_all_finite}
+-- The energies' refusal, or behind it the ranges.
+use Rattle.std.proofs.Common.{rules, ◌≡◌, ◌∙◌}
+use Rattle.std.specs.Prelude.{Err}
+use Rattle.calls.proofs.Answers.{ends_worked}
 use Rattle.calls.proofs.kinds.ends_of.Goals as goal
 
-pub returns-then-are_finite : goal.returns-then-are_finite
-returns-then-are_finite c =
-    c.ranges_of.ensures ∙ ends_worked c.args.c c.contributions-e.ensures c.are_finite.ensures c.if-are_finite.true
+pub returns-in_err-energies_of : goal.returns-in_err-energies_of
+returns-in_err-energies_of c =
+    let refused : c.from_residual.result ≡ Err c.in_err-energies_of.field-0.0 = search rules in
+    refused ∙ (rw (← c.energies_of.ensures, c.in_err-energies_of.was) at (ends_worked c.args.c.case))
 
 pub returns : goal.returns
-returns c =
-    not_all_finite c.args.c c.contributions-e.ensures c.are_finite.ensures ForEnds c.if-are_finite.false
+returns c = c.ranges_of.ensures ∙ (rw (← c.energies_of.ensures, c.in_ok-energies_of.was) at (ends_worked c.args.c.case))

@@ -1,12 +1,13 @@
 -- By what the test of the three energies says.
-use Rattle.calls.specs.declared.kinds.Kind.TheVariants.{Energies as ForEnergies}
-use Rattle.calls.proofs.Answers.{all_finite, not_all_finite}
+use Rattle.std.proofs.Common.{rules, ◌≡◌, ◌∙◌}
+use Rattle.std.specs.Prelude.{Err}
+use Rattle.calls.proofs.Answers.{energies_worked}
 use Rattle.calls.proofs.kinds.energies_of.Goals as goal
 
-pub returns-then-are_finite : goal.returns-then-are_finite
-returns-then-are_finite c =
-    all_finite c.args.c c.contributions-e.ensures c.are_finite.ensures c.if-are_finite.true
+pub returns-in_err-require : goal.returns-in_err-require
+returns-in_err-require c =
+    let refused : c.from_residual.result ≡ Err c.in_err-require.field-0.0 = search rules in
+    refused ∙ (rw (← c.require.ensures, c.in_err-require.was) at (energies_worked c.args.c.case c.contributions-e.ensures c.are_finite.ensures))
 
 pub returns : goal.returns
-returns c =
-    not_all_finite c.args.c c.contributions-e.ensures c.are_finite.ensures ForEnergies c.if-are_finite.false
+returns c = rw (← c.require.ensures, c.in_ok-require.was) at (energies_worked c.args.c.case c.contributions-e.ensures c.are_finite.ensures)

@@ -16,33 +16,33 @@ parts : (h : Header) (l : Layout) → l ≡ layout_of h → h.n ≤ 8
     → (l.k_ij ≡ 4 * h.n) × (l.temperature ≡ 4 * h.n + pairs h.n) × (l.partial_density ≡ 4 * h.n + pairs h.n + 1) × (l.molefracs ≡ 4 * h.n + pairs h.n + 1 + h.n) × (pairs h.n ≤ 28)
 parts h l e few = rw e (refl, refl, refl, refl, few_pairs h.n few)
 
-pub returns-then-k-first_k_ij : goal.returns-then-k-first_k_ij
-returns-then-k-first_k_ij c =
-    let a = c.args in
-    let p = parts a.h _ c.layout_of-l.ensures c.requires.0 in
-    c.substance_double.ensures ∙ sym (in_substances a.h a.m a.s a.k (omega (arith, p)))
-
 pub returns-then-k-l : goal.returns-then-k-l
 returns-then-k-l c =
-    let a = c.args in
-    let p = parts a.h _ c.layout_of-l.ensures c.requires.0 in
-    ap (λ (l : Layout). get_or a.m.k_ij (a.k - l.k_ij) nan) c.layout_of-l.ensures ∙ sym (in_k_ij a.h a.m a.s a.k (omega (arith, p)) (omega (arith, p)))
+    let a = c.args.c in
+    let p = parts a.header _ c.layout_of-l.ensures a.few in
+    c.substance_double.ensures ∙ sym (in_substances a.header a.mixture a.state c.args.k (omega (arith, p)))
 
-pub returns-then-k-first_density : goal.returns-then-k-first_density
-returns-then-k-first_density c =
-    let a = c.args in
-    let p = parts a.h _ c.layout_of-l.ensures c.requires.0 in
-    sym (in_temperature a.h a.m a.s a.k (omega (arith, p)) (omega (arith, p)))
+pub returns-then-k-l-2 : goal.returns-then-k-l-2
+returns-then-k-l-2 c =
+    let a = c.args.c in
+    let p = parts a.header _ c.layout_of-l.ensures a.few in
+    ap (λ (l : Layout). get_or a.mixture.k_ij (c.args.k - l.k_ij) nan) c.layout_of-l.ensures ∙ sym (in_k_ij a.header a.mixture a.state c.args.k (omega (arith, p)) (omega (arith, p)))
 
-pub returns-then-k-first_fraction : goal.returns-then-k-first_fraction
-returns-then-k-first_fraction c =
-    let a = c.args in
-    let p = parts a.h _ c.layout_of-l.ensures c.requires.0 in
-    ap (λ (l : Layout). get_or a.s.partial_density (a.k - l.partial_density) nan) c.layout_of-l.ensures
-    ∙ sym (in_densities a.h a.m a.s a.k (omega (arith, p)) (omega (arith, p)))
+pub returns-then-k-l-3 : goal.returns-then-k-l-3
+returns-then-k-l-3 c =
+    let a = c.args.c in
+    let p = parts a.header _ c.layout_of-l.ensures a.few in
+    sym (in_temperature a.header a.mixture a.state c.args.k (omega (arith, p)) (omega (arith, p)))
+
+pub returns-then-k-l-4 : goal.returns-then-k-l-4
+returns-then-k-l-4 c =
+    let a = c.args.c in
+    let p = parts a.header _ c.layout_of-l.ensures a.few in
+    ap (λ (l : Layout). get_or a.state.partial_density (c.args.k - l.partial_density) nan) c.layout_of-l.ensures
+    ∙ sym (in_densities a.header a.mixture a.state c.args.k (omega (arith, p)) (omega (arith, p)))
 
 pub returns : goal.returns
 returns c =
-    let a = c.args in
-    let p = parts a.h _ c.layout_of-l.ensures c.requires.0 in
-    ap (λ (l : Layout). get_or a.s.molefracs (a.k - l.molefracs) nan) c.layout_of-l.ensures ∙ sym (in_fractions a.h a.m a.s a.k (omega (arith, p)))
+    let a = c.args.c in
+    let p = parts a.header _ c.layout_of-l.ensures a.few in
+    ap (λ (l : Layout). get_or a.state.molefracs (c.args.k - l.molefracs) nan) c.layout_of-l.ensures ∙ sym (in_fractions a.header a.mixture a.state c.args.k (omega (arith, p)))

@@ -1,7 +1,4 @@
-use Prim.Native.Nat.{◌≤◌}
-use mathlib.Core.Path.{◌≡◌, refl, ap}
-use native.Mathlib.Omega.{arith}
-use lib.ListN.{length}
+use Rattle.std.proofs.Common.{◌≡◌, ◌≤◌, length, refl, ap, arith}
 use Rattle.big_endian.proofs.Written.{none_yet}
 use Rattle.case_record.specs.declared.layout.Layout.{Layout}
 use Rattle.case_record.specs.Layout.{layout_of}
@@ -15,23 +12,22 @@ unfolding values
 loop-k-init c =
     let l = c.put_header.new.out in
     let h : 5 ≤ length l = omega arith in
-    (omega arith, none_yet l 5 h, refl)
+    (none_yet l 5 h, refl)
 
 pub loop-k-preserved : goal.loop-k-preserved
 loop-k-preserved c =
-    let a = c.args in
+    let a = c.args.c in
     let l = c.put_header.new.out in
     let h : 5 ≤ length l = omega arith in
     -- the loop goes to the number of doubles
-    let to_the_end : c.layout_of-l.result.doubles ≡ (layout_of a.h).doubles = ap (λ (l : Layout). l.doubles) c.layout_of-l.ensures in (
-      omega arith,
-      double_more l (double_of a.h a.m a.s) h c.loop-k.k c.loop-k.invariant.1 (rw c.double_of.ensures at c.put_double.ensures),
+    let to_the_end : c.layout_of-k-end.result.doubles ≡ (layout_of a.header).doubles = ap (λ (l : Layout). l.doubles) c.layout_of-k-end.ensures in (
+      double_more l (double_of a.header a.mixture a.state) h c.loop-k.k c.loop-k.invariant.0 (rw c.double_of.ensures at c.put_double.ensures),
       omega arith,
     )
 
 pub returns : goal.returns
 returns c =
-    let a = c.args in
-    let to_the_end : c.layout_of-l.result.doubles ≡ (layout_of a.h).doubles = ap (λ (l : Layout). l.doubles) c.layout_of-l.ensures in
-    let e : c.loop-k.k ≡ (layout_of a.h).doubles = omega arith in
-    whole_record a.out.now a.h a.m a.s c.put_header.ensures (rw e at c.loop-k.invariant.1)
+    let a = c.args.c in
+    let to_the_end : c.layout_of-k-end.result.doubles ≡ (layout_of a.header).doubles = ap (λ (l : Layout). l.doubles) c.layout_of-k-end.ensures in
+    let e : c.loop-k.k ≡ (layout_of a.header).doubles = omega arith in
+    whole_record c.args.out.now a.header a.mixture a.state c.put_header.ensures (rw e at c.loop-k.invariant.0)

@@ -5,8 +5,8 @@ use Rattle.noddyfir.specs.Call.{answer_to, room_of}
 use Rattle.noddyfir.proofs.Running.{Going}
 use Rattle.noddyfir.proofs.run.run_records.Given as goal
 
-abbrev pub invariant-loop-size : goal.invariant-loop-size
-invariant-loop-size l = Going (room_of l.kind) (answer_to l.kind) l.records l.initial.answers l.done l.read l.written l.answers
+abbrev pub invariant-loop-record : goal.invariant-loop-record
+invariant-loop-record l = Going (room_of l.kind) (answer_to l.kind) l.records l.initial.answers l.run.records l.run.read l.run.written l.answers
 
-abbrev pub decreases-loop-size : goal.decreases-loop-size
-decreases-loop-size l = length l.records - l.read
+abbrev pub decreases-loop-record : goal.decreases-loop-record
+decreases-loop-record l = length l.records - l.run.read

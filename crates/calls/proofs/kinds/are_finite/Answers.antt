@@ -1,4 +1,0 @@
-use Rattle.calls.proofs.kinds.are_finite.Goals as goal
-
-pub returns : goal.returns
-returns c = rw (c.is_finite.ensures, c.is_finite-2.ensures, c.is_finite-3.ensures)

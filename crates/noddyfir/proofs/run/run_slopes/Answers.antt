@@ -1,4 +1,0 @@
-use Rattle.noddyfir.proofs.run.run_slopes.Goals as goal
-
-pub returns : goal.returns
-returns c = c.run_records.ensures

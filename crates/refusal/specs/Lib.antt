@@ -1,0 +1,2 @@
+-- What documents 01 and 02 say of refusals.
+pub mod Code
