@@ -89,7 +89,7 @@ module _ (s : List ℕ) (are_bytes : (i : ℕ) → get_or s i 0 < 256) where
       rw (a, b, c) (header_of_read l)
 
 -- ---- what was written, read, with anything behind it
-field_padded : {n : ℕ} {m : Mixture} {t : State} → Padded n m t → (j : ℕ) → PaddedRow 8 n (field_of m j)
+field_padded : {n : ℕ} {m : Mixture} {t : State Float} → Padded n m t → (j : ℕ) → PaddedRow 8 n (field_of m j)
 field_padded p zero = p.rep
 field_padded p (suc zero) = p.att
 field_padded p (suc (suc zero)) = p.sigma
@@ -98,10 +98,10 @@ field_padded p (suc (suc (suc j))) = p.epsilon_k
 same_mixture : {a b : Mixture} → a.n ≡ b.n → a.rep ≡ b.rep → a.att ≡ b.att → a.sigma ≡ b.sigma → a.epsilon_k ≡ b.epsilon_k → a.k_ij ≡ b.k_ij → a ≡ b
 same_mixture n rep att sigma epsilon_k k_ij = λ i. record { n = n i; rep = rep i; att = att i; sigma = sigma i; epsilon_k = epsilon_k i; k_ij = k_ij i }
 
-same_state : {a b : State} → a.temperature ≡ b.temperature → a.partial_density ≡ b.partial_density → a.molefracs ≡ b.molefracs → a ≡ b
+same_state : {a b : State Float} → a.temperature ≡ b.temperature → a.partial_density ≡ b.partial_density → a.molefracs ≡ b.molefracs → a ≡ b
 same_state temperature density fraction = λ i. record { temperature = temperature i; partial_density = density i; molefracs = fraction i }
 
-module _ (h : Header) (m : Mixture) (t : State) (rest : List ℕ) where
+module _ (h : Header) (m : Mixture) (t : State Float) (rest : List ℕ) where
   pub header_read : header_of (record_bytes h m t ++ rest) ≡ h
   unfolding bytes_of
   header_read = refl
@@ -154,12 +154,12 @@ module _ (h : Header) (m : Mixture) (t : State) (rest : List ℕ) where
         (row_read 8 h.n (layout_of h).partial_density 1 t.partial_density p.partial_density (λ i b. omega arith) (density_at h m t))
         (row_read 8 h.n (layout_of h).molefracs 1 t.molefracs p.molefracs (λ i b. omega arith) (fraction_at h m t))
 
-pub record_length : (h : Header) (m : Mixture) (t : State) → length (record_bytes h m t) ≡ 2 + length_of h
+pub record_length : (h : Header) (m : Mixture) (t : State Float) → length (record_bytes h m t) ≡ 2 + length_of h
 unfolding bytes_of
 record_length h m t = let xs = values (layout_of h).doubles (double_of h m t) in omega (arith, length_doubles xs, length_values (layout_of h).doubles (double_of h m t))
 
 -- the laws together, with anything behind the record
-pub read_written : (h : Header) (m : Mixture) (t : State) (rest : List ℕ) → h.n ≤ 8 → Padded h.n m t
+pub read_written : (h : Header) (m : Mixture) (t : State Float) (rest : List ℕ) → h.n ≤ 8 → Padded h.n m t
     → let s = record_bytes h m t ++ rest in
     (header_of s ≡ h) × (mixture_of s h ≡ m) × (state_of s h ≡ t) × (length_field s ≡ length_of h) × (length s ≡ 2 + length_of h + length rest)
 read_written h m t rest l p = (
@@ -171,7 +171,7 @@ read_written h m t rest l p = (
 )
 
 -- and for the record alone
-pub read_alone : (h : Header) (m : Mixture) (t : State) → h.n ≤ 8 → Padded h.n m t
+pub read_alone : (h : Header) (m : Mixture) (t : State Float) → h.n ≤ 8 → Padded h.n m t
     → let s = record_bytes h m t in (header_of s ≡ h) × (mixture_of s h ≡ m) × (state_of s h ≡ t) × (length_field s ≡ length_of h) × (length s ≡ 2 + length_of h)
 read_alone h m t l p =
     let e : record_bytes h m t ++ [] ≡ record_bytes h m t = append-nil (record_bytes h m t) in (
@@ -183,7 +183,7 @@ read_alone h m t l p =
     )
 
 -- the case that is read
-pub case_read : (h : Header) (m : Mixture) (t : State) (rest : List ℕ) → Padded h.n m t
+pub case_read : (h : Header) (m : Mixture) (t : State Float) (rest : List ℕ) → Padded h.n m t
     → case_of (record_bytes h m t ++ rest) ≡ record { perturbation = perturbation_of h.perturbation; mixture = m; state = t }
 unfolding bytes_of
 case_read h m t rest p = λ i. record { perturbation = perturbation_of h.perturbation; mixture = mixture_read h m t rest p i; state = state_read h m t rest p i }

@@ -37,14 +37,14 @@ pub double_more : (l : List ℕ) (f : ℕ → Float) → 5 ≤ length l → (k :
 unfolding values
 double_more l f h k {l₁} e₁ e₂ = rw (add-one k) (Written.double_more l 5 h (values k f) (f k) e₁ (rw (length_values k f) e₂))
 
-pub whole_record : (l : List ℕ) (h : Header) (m : Mixture) (t : State) {l₁ l₂ : List ℕ} → l₁ ≡ written l (header_bytes h)
+pub whole_record : (l : List ℕ) (h : Header) (m : Mixture) (t : State Float) {l₁ l₂ : List ℕ} → l₁ ≡ written l (header_bytes h)
     → l₂ ≡ written l₁ (take 5 l₁ ++ doubles_bytes (values (layout_of h).doubles (double_of h m t)))
     → l₂ ≡ written l (record_bytes h m t)
 unfolding bytes_of
 whole_record l h m t e₁ e₂ = e₂ ∙ rw e₁ (again (header_bytes h) (doubles_bytes (values (layout_of h).doubles (double_of h m t))) l)
 
 -- what is written are bytes
-pub record_bytes_below : (h : Header) (m : Mixture) (t : State) → h.version < 256 → h.perturbation < 256 → h.n ≤ 8 → (i : ℕ) → get_or (record_bytes h m t) i 0 < 256
+pub record_bytes_below : (h : Header) (m : Mixture) (t : State Float) → h.version < 256 → h.perturbation < 256 → h.n ≤ 8 → (i : ℕ) → get_or (record_bytes h m t) i 0 < 256
 record_bytes_below h m t v p n = append_below (bytes_of (length_of h) 2) _ (bytes_below (length_of h) 2) behind
   where
     behind : (i : ℕ) → get_or (h.version ∷ h.perturbation ∷ h.n ∷ doubles_bytes (values (layout_of h).doubles (double_of h m t))) i 0 < 256

@@ -5,7 +5,7 @@ use mathlib.Core.Logic.{◌⊎◌, inl, inr}
 use native.Mathlib.Omega.{arith}
 use borrow.Author.Tests.{lt-ltb, le-ltb}
 use lib.ListN.{get_or}
-use lib.Ieee.{nan}
+use lib.Ieee.{Float, nan}
 use Rattle.uvtheory.specs.declared.parameters.Mixture.{Mixture}
 use Rattle.uvtheory.specs.declared.parameters.State.{State}
 use Rattle.case_record.specs.declared.layout.Header.{Header}
@@ -13,7 +13,7 @@ use Rattle.case_record.specs.Layout.{layout_of, pairs}
 use Rattle.case_record.specs.Writing.{double_of, field_of}
 use Rattle.case_record.proofs.Values.{below_or_from}
 
-module _ (h : Header) (m : Mixture) (t : State) (k : ℕ) where
+module _ (h : Header) (m : Mixture) (t : State Float) (k : ℕ) where
   pub in_substances : k < (layout_of h).k_ij → double_of h m t k ≡ get_or (field_of m (k % 4)) (k / 4) nan
   unfolding double_of
   in_substances below = rw (lt-ltb k (layout_of h).k_ij below)
@@ -44,7 +44,7 @@ module _ (h : Header) (m : Mixture) (t : State) (k : ℕ) where
       rw (le-ltb k (layout_of h).k_ij a, le-ltb k (layout_of h).temperature b, le-ltb k (layout_of h).partial_density d, le-ltb k (layout_of h).molefracs from)
 
 -- ---- the places that reading uses
-module _ (h : Header) (m : Mixture) (t : State) where
+module _ (h : Header) (m : Mixture) (t : State Float) where
   pub substance_at : (j i : ℕ) → j < 4 → i < h.n → double_of h m t (j + 4 * i) ≡ get_or (field_of m j) i nan
   substance_at j i p q =
       let e : (j + 4 * i) % 4 ≡ j = omega arith in

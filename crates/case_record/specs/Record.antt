@@ -39,7 +39,7 @@ mixture_of s h =
     }
 
 -- "temperature; n partial densities; n mole fractions"
-unfoldable pub state_of : List ℕ → Header → State
+unfoldable pub state_of : List ℕ → Header → State Float
 state_of s h =
     let l = layout_of h in
     record {

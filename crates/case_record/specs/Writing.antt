@@ -17,7 +17,7 @@ field_of m (suc (suc zero)) = m.sigma
 field_of m (suc (suc (suc k))) = m.epsilon_k
 
 -- The k-th double: below the k_ij the field k % 4 of the substance k / 4; then the k_ij; then the temperature; then the partial densities; then the mole fractions.
-unfoldable pub double_of : Header → Mixture → State → ℕ → Float
+unfoldable pub double_of : Header → Mixture → State Float → ℕ → Float
 double_of h m t k =
     let l = layout_of h in
     cond (ltb k l.k_ij) (get_or (field_of m (k % 4)) (k / 4) nan)
@@ -30,7 +30,7 @@ abbrev pub header_bytes : Header → List ℕ
 header_bytes h = bytes_of (length_of h) 2 ++ (h.version ∷ h.perturbation ∷ h.n ∷ [])
 
 -- the same, and the doubles
-abbrev pub record_bytes : Header → Mixture → State → List ℕ
+abbrev pub record_bytes : Header → Mixture → State Float → List ℕ
 record_bytes h m t = bytes_of (length_of h) 2 ++ (h.version ∷ h.perturbation ∷ h.n ∷ doubles_bytes (values (layout_of h).doubles (double_of h m t)))
 
 -- ---- what can be read again
@@ -40,7 +40,7 @@ pub record PaddedRow (size n : ℕ) (xs : List Float) : Type 0 where
   pub doubles : (i : ℕ) → i < n → T (fits binary64 (get_or xs i nan))
 
 -- A mixture and a state of n substances with such arrays, as reading gives them.
-pub record Padded (n : ℕ) (m : Mixture) (t : State) : Type 0 where
+pub record Padded (n : ℕ) (m : Mixture) (t : State Float) : Type 0 where
   pub count : m.n ≡ n
   pub rep : PaddedRow 8 n m.rep
   pub att : PaddedRow 8 n m.att

@@ -13,7 +13,7 @@ use uvtheory::parameters::{Mixture, State};
 pub struct Case {
     pub perturbation: Perturbation,
     pub mixture: Mixture,
-    pub state: State,
+    pub state: State<f64>,
 }
 
 // A case of at most 8 substances: its arrays have room for them.
@@ -68,7 +68,7 @@ pub fn mixture_of(record: &[u8], h: Header) -> Mixture
 }
 
 #[tactic(auto, unfolding(crate::specs::Record::state_of))]
-pub fn state_of(record: &[u8], h: Header) -> State
+pub fn state_of(record: &[u8], h: Header) -> State<f64>
     requires { Whole «record».now h }
     ensures { result ≡ state_of «record».now h }
 {

@@ -14,7 +14,7 @@ use uvtheory::parameters::{Mixture, State};
 pub struct Contents {
     pub header: Header,
     pub mixture: Mixture,
-    pub state: State,
+    pub state: State<f64>,
     pub ghost few: { header.n ≤ 8 },
 }
 

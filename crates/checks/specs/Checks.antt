@@ -98,7 +98,7 @@ substances_inside m =
     all_inside k_ij (pairs m.n) m.k_ij
 
 -- the state of n substances
-unfoldable pub state_inside : ℕ → State → Bool
+unfoldable pub state_inside : ℕ → State Float → Bool
 state_inside n t =
     inside temperature t.temperature &&
     all_inside density n t.partial_density &&

@@ -1,14 +1,18 @@
 // The checks of a record, in stages: the envelope, the substances, the state.
 #![tactic(auto)]
 
-ghost use Rattle.std.specs.Prelude.{◌≡◌, [], ◌∷◌};
+ghost use Rattle.std.specs.Prelude.{◌≡◌, ◌≤◌, [], ◌∷◌};
 ghost use Rattle.std.specs.List.{list_all};
+ghost use Rattle.arithmetic.specs.Doubles.{guarded};
+ghost use Rattle.uvtheory.specs.Rows.{doubles};
 ghost use Rattle.checks.specs.Checks.{envelope, first_failing, inside, state, state_inside, substances, substances_inside};
 
 use big_endian::big_endian2;
 use case_record::case::BoundedCase;
 use case_record::layout::{header_of, length_of, pairs, perturbation_of};
+use num_dual::double::Double;
 use refusal::Refusal;
+use uvtheory::arrays::constants;
 use uvtheory::hard_sphere::sum;
 
 // A closed interval: its lower and its upper limit.
@@ -61,6 +65,14 @@ fn substances_inside(c: BoundedCase) -> bool
         & K_IJ.contains_all(&m.k_ij[..pairs(m.n)])
 }
 
+// The vector sum of the first n doubles.
+fn vector_sum(n: usize, values: &[f64; 8]) -> f64
+    requires { n ≤ 8 }
+    ensures { result ≡ guarded.sum n (doubles values.now) }
+{
+    sum::<Double>(n, &constants(values)).into()
+}
+
 #[tactic(auto, unfolding(crate::specs::Checks::state_inside), using(crate::proofs::Inside::of_the_first))]
 fn state_inside(c: BoundedCase) -> bool
     ensures { result ≡ state_inside c.case.mixture.n c.case.state }
@@ -70,7 +82,7 @@ fn state_inside(c: BoundedCase) -> bool
     TEMPERATURE.contains(state.temperature)
         & DENSITY.contains_all(&state.partial_density[..n])
         & FRACTION.contains_all(&state.molefracs[..n])
-        & FRACTION_SUM.contains(sum(n, &state.molefracs))
+        & FRACTION_SUM.contains(vector_sum(n, &state.molefracs))
 }
 
 // A test of the table, with what is due where it fails.
