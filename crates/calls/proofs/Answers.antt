@@ -30,9 +30,8 @@ use Rattle.answer.specs.declared.Answer.{Answer}
 use Rattle.answer.specs.declared.Answer.TheVariants.{Energies, Ends, Slopes}
 use Rattle.calls.specs.declared.kinds.Kind.{Kind}
 use Rattle.calls.specs.declared.kinds.Kind.TheVariants.{Energies as ForEnergies, Ends as ForEnds, Slopes as ForSlopes}
-use Rattle.std.specs.Prelude.{Result, Ok, Err}
+use Rattle.std.specs.Prelude.{Ok}
 use Rattle.std.specs.Result.{result_and}
-use Rattle.refusal.specs.declared.Refusal.{Refusal}
 use Rattle.refusal.specs.declared.Refusal.TheVariants as Due
 use Rattle.calls.specs.Answers.{all, arithmetic, beyond, ends_of, energies_of, order, result_of, slopes_of, staged, tested, worked_of}
 

@@ -6,7 +6,6 @@ use mathlib.Core.Bool.{true, false}
 use mathlib.Core.List.{List, [], ◌∷◌, ◌++◌}
 use native.Mathlib.Omega.{arith}
 use lib.Ieee.{Float}
-use lib.Ieee.Scale.{finite}
 use Rattle.arithmetic.specs.Doubles.{doubles}
 use Rattle.arithmetic.specs.Value.{value, Within}
 use Rattle.arithmetic.proofs.Distance.{both_within}
@@ -18,14 +17,14 @@ use Rattle.range.proofs.Certified.{Holds, certified, enclosed}
 use Rattle.range.proofs.Carried.{Carries, carried}
 use Rattle.eos.proofs.Sent.{as_sent}
 use Rattle.case_record.specs.Record.{case_of}
-use Rattle.std.specs.Prelude.{Ok}
+use Rattle.std.specs.Prelude.{Ok as Passes}
 use Rattle.refusal.specs.declared.Refusal.{Refusal}
 use Rattle.checks.specs.Checks.{Checks, envelope, substances, state, first_failing}
 use Rattle.checks.proofs.Accepted.{all_passed, in_order}
 use Rattle.answer.specs.declared.Answer.{Answer}
 use Rattle.answer.specs.declared.Answer.TheVariants.{Ends, Refused}
 use Rattle.calls.specs.declared.kinds.Kind.TheVariants.{Energies as ForEnergies, Ends as ForEnds}
-use Rattle.calls.specs.Answers.{answer_of, answered, arithmetic, beyond, ends_of, energies_of, order, result_of, tested}
+use Rattle.calls.specs.Answers.{all, answer_of, answered, arithmetic, beyond, ends_of, energies_of, order, result_of, tested}
 use Rattle.calls.specs.Guarantee.{reading_of, EnergyHeld, EndsHold}
 use Rattle.calls.proofs.Answers.{each_true}
 
@@ -56,22 +55,34 @@ three_ends e = (cc, cc, cc)
 -- no check refuses the record or its case, the energies are finite, and the ends are the case's
 pub record HasEnds (s : List ℕ) (h r a : Range) : Type 0 where
   pub has_energies : answer_of ForEnergies s ≡ result_of ForEnergies (case_of s)
-  pub of_record : first_failing (envelope s) ≡ Ok tt
+  pub of_record : first_failing (envelope s) ≡ Passes tt
   pub are_ok : all ok (ends_of (case_of s)) ≡ true
   pub are : result_of ForEnds (case_of s) ≡ Ends h r a
 
 -- what is answered behind tests is with ends where all of them pass
-passed_all : (tests : Checks) (x : Answer) {h r a : Range} → answered (tested tests x) ≡ Ends h r a → (first_failing tests ≡ Ok tt) × (x ≡ Ends h r a)
+passed_all : (tests : Checks) (x : Answer) {h r a : Range} → answered (tested tests x) ≡ Ends h r a → (first_failing tests ≡ Passes tt) × (x ≡ Ends h r a)
 unfolding tested
 passed_all [] x e = (refl, e)
 passed_all ((refusal, true) ∷ rest) x e = passed_all rest x e
 passed_all ((refusal, false) ∷ rest) x e = no_ends e
 
 -- of the first tests, and of the others
-in_front : (a b : Checks) → first_failing (a ++ b) ≡ Ok tt → (first_failing a ≡ Ok tt) × (first_failing b ≡ Ok tt)
+in_front : (a b : Checks) → first_failing (a ++ b) ≡ Passes tt → (first_failing a ≡ Passes tt) × (first_failing b ≡ Passes tt)
 in_front [] b e = (refl, e)
 in_front ((refusal, true) ∷ rest) b e = in_front rest b e
 in_front ((refusal, false) ∷ rest) b e = let z : ◌≡◌ {A = ℕ} 0 1 = cc in absurd (omega arith)
+
+joined : (a b : Checks) → first_failing a ≡ Passes tt → first_failing b ≡ Passes tt → first_failing (a ++ b) ≡ Passes tt
+joined a b e f = in_order a b ∙ rw (e, f)
+
+energies_behind : (s : List ℕ) → first_failing (envelope s) ≡ Passes tt → first_failing (substances (case_of s) ++ state (case_of s)) ≡ Passes tt → first_failing (arithmetic (case_of s)) ≡ Passes tt
+    → answer_of ForEnergies s ≡ result_of ForEnergies (case_of s)
+unfolding answer_of tested
+energies_behind s i j k =
+    let c = case_of s in
+    let e : first_failing (order ForEnergies s) ≡ Passes tt =
+    joined (envelope s) ((substances c ++ state c) ++ arithmetic c ++ []) i (joined (substances c ++ state c) (arithmetic c ++ []) j (joined (arithmetic c) [] k refl)) in
+    rw e
 
 has_ends : (s : List ℕ) {h r a : Range} → answer_of ForEnds s ≡ Ends h r a → HasEnds s h r a
 unfolding answer_of
@@ -87,18 +98,6 @@ has_ends s e =
       are_ok = are_ok;
       are = are;
     }
-  where
-    joined : (a b : Checks) → first_failing a ≡ Ok tt → first_failing b ≡ Ok tt → first_failing (a ++ b) ≡ Ok tt
-    joined a b e f = in_order a b ∙ rw (e, f)
-
-    energies_behind : (s : List ℕ) → first_failing (envelope s) ≡ Ok tt → first_failing (substances (case_of s) ++ state (case_of s)) ≡ Ok tt → first_failing (arithmetic (case_of s)) ≡ Ok tt
-        → answer_of ForEnergies s ≡ result_of ForEnergies (case_of s)
-    unfolding answer_of tested
-    energies_behind s i j k =
-        let c = case_of s in
-        let e : first_failing (order ForEnergies s) ≡ Ok tt =
-        joined (envelope s) ((substances c ++ state c) ++ arithmetic c ++ []) i (joined (substances c ++ state c) (arithmetic c ++ []) j (joined (arithmetic c) [] k refl)) in
-        rw e
 
 -- ---- the theorem
 pub ends_hold : (s : List ℕ) (hard_sphere reference attractive : Range) → answer_of ForEnds s ≡ Ends hard_sphere reference attractive → EndsHold s hard_sphere reference attractive

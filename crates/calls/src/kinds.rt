@@ -45,10 +45,8 @@ fn ranges_of(c: BoundedCase) -> Result<Answer, Refusal>
 {
     let c = c.case;
     let e = eos::ranges::contributions(c.perturbation, c.mixture, sent(c.state));
-    require(
-        e.hard_sphere.is_ok() & e.reference.is_ok() & e.attractive.is_ok(),
-        Refusal::Ends,
-    )?;
+    let are_ok = e.hard_sphere.is_ok() & e.reference.is_ok() & e.attractive.is_ok();
+    require(are_ok, Refusal::Ends)?;
     Ok(Answer::Ends(e.hard_sphere, e.reference, e.attractive))
 }
 
