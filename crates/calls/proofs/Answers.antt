@@ -7,18 +7,14 @@ use lib.Dec.{T}
 use lib.Ieee.{Float, nan, inf, fin}
 use lib.Ieee.Scale.{finite}
 use Rattle.arithmetic.specs.Doubles.{checked, guarded}
+use Rattle.range.specs.declared.basic.Range.{Range as RangeOfEnds}
 use Rattle.range.specs.Rules as Range
 use Rattle.dual.specs.declared.basic.Dual.{Dual}
 use Rattle.dual.specs.Rules.{plain, guarded_slopes}
 use Rattle.dual.specs.Rules as Dual
 use Rattle.dual.proofs.Agreement.{Same, ok_kept, in_code}
 use Rattle.uvtheory.specs.Inputs as Inputs
-use Rattle.uvtheory.specs.declared.contributions.Contributions.{Contributions as Held}
-use Rattle.uvtheory.specs.Held.{ContributionsOf}
-use Rattle.uvtheory_range.specs.declared.contributions.Contributions.{Contributions as HeldRanges}
-use Rattle.uvtheory_range.specs.Held.{ContributionsOf as RangesOf}
-use Rattle.uvtheory_dual.specs.declared.contributions.Contributions.{Contributions as HeldDuals}
-use Rattle.uvtheory_dual.specs.Held.{ContributionsOf as DualsOf}
+use Rattle.uvtheory.specs.declared.contributions.Contributions.{Contributions}
 use Rattle.eos.specs.Contributions.{contributions}
 use Rattle.eos.specs.Slopes.{started}
 use Rattle.eos.proofs.Agreement.{contributions_agree}
@@ -54,6 +50,19 @@ stages kind s =
     ∙ ap (result_and (first_failing (envelope s))) (in_stages (substances c) (state c ++ worked) x ∙ ap (result_and (first_failing (substances c))) (in_stages (state c) worked x))
     )
 
+-- ---- three values that are three others, one by one
+record Each {X : Type 0} (a b : Contributions X) : Type 0 where
+  hard_sphere_is : a.hard_sphere ≡ b.hard_sphere
+  reference_is : a.reference ≡ b.reference
+  attractive_is : a.attractive ≡ b.attractive
+
+each : {X : Type 0} {a b : Contributions X} → a ≡ b → Each a b
+each {X} e = record {
+  hard_sphere_is = ap (λ (x : Contributions X). x.hard_sphere) e;
+  reference_is = ap (λ (x : Contributions X). x.reference) e;
+  attractive_is = ap (λ (x : Contributions X). x.attractive) e;
+}
+
 -- ---- three tests
 each_same : {p q r p' q' r' : Bool} → p ≡ p' → q ≡ q' → r ≡ r' → p && q && r ≡ p' && q' && r'
 each_same h k l = rw (h, k, l)
@@ -83,8 +92,11 @@ module _ {h g d : Float} (held : h ≡ g) (agrees : checked g ≡ d) where
   value_is : T (finite h) → h ≡ d
   value_is k = held ∙ checked_is g (subst (λ (x : Float). T (finite x)) held k) ∙ agrees
 
-module _ (c : Case) {e : Held} (are : ContributionsOf e (contributions guarded c.perturbation c.mixture (Inputs.state guarded c.state))) {b : Bool}
+module _ (c : Case) {e : Contributions Float} (e_is : e ≡ contributions guarded c.perturbation c.mixture (Inputs.state guarded c.state)) {b : Bool}
     (b_is : b ≡ finite e.hard_sphere && finite e.reference && finite e.attractive) where
+  are : Each e (contributions guarded c.perturbation c.mixture (Inputs.state guarded c.state))
+  are = each e_is
+
   same_test : b ≡ all finite (energies_of c)
   same_test =
       let a = contributions_agree c.perturbation c.mixture c.state in
@@ -118,13 +130,13 @@ ends_worked c = go (all finite (energies_of c))
     go false = refl
 
 -- ---- the three ranges
-module _ (c : Case) {e : HeldRanges} (are : RangesOf e (ends_of c)) {b : Bool} (b_is : b ≡ Range.ok e.hard_sphere && Range.ok e.reference && Range.ok e.attractive) where
+module _ (c : Case) {e : Contributions RangeOfEnds} (e_is : e ≡ ends_of c) {b : Bool} (b_is : b ≡ Range.ok e.hard_sphere && Range.ok e.reference && Range.ok e.attractive) where
   ranges_tested : b ≡ all Range.ok (ends_of c)
-  ranges_tested = b_is ∙ rw (are.hard_sphere_is, are.reference_is, are.attractive_is)
+  ranges_tested = let are = each e_is in b_is ∙ rw (are.hard_sphere_is, are.reference_is, are.attractive_is)
 
   pub ranges_worked : result_and (first_failing ((Due.Ends, b) ∷ [])) (Ok (Ends e.hard_sphere e.reference e.attractive)) ≡ tested (beyond ForEnds c) (result_of ForEnds c)
   unfolding tested
-  ranges_worked = rw (ranges_tested, are.hard_sphere_is, are.reference_is, are.attractive_is)
+  ranges_worked = let are = each e_is in rw (ranges_tested, are.hard_sphere_is, are.reference_is, are.attractive_is)
 
 -- ---- the three with slopes: the code holds h, works g, and the definition has d
 module _ {h g d : Dual} (held : h ≡ g) (agrees : Same g d) where
@@ -137,7 +149,10 @@ module _ {h g d : Dual} (held : h ≡ g) (agrees : Same g d) where
   dual_value_tested : finite h.value ≡ finite d.value
   dual_value_tested = ap (λ (x : Dual). finite x.value) held ∙ finite_checked g.value ∙ ap (λ (x : Dual). finite x.value) agrees.is
 
-module _ (c : Case) {e : HeldDuals} (are : DualsOf e (contributions guarded_slopes c.perturbation c.mixture (started plain c.state))) where
+module _ (c : Case) {e : Contributions Dual} (e_is : e ≡ contributions guarded_slopes c.perturbation c.mixture (started plain c.state)) where
+  are_sloped : Each e (contributions guarded_slopes c.perturbation c.mixture (started plain c.state))
+  are_sloped = each e_is
+
   -- the values are the energies
   values_tested : {v : Bool} → v ≡ finite e.hard_sphere.value && finite e.reference.value && finite e.attractive.value → v ≡ all finite (energies_of c)
   values_tested v_is =
@@ -145,15 +160,15 @@ module _ (c : Case) {e : HeldDuals} (are : DualsOf e (contributions guarded_slop
       let v = Sloped.values_are c.perturbation c.mixture c.state in
       v_is
       ∙ each_same
-      (dual_value_tested are.hard_sphere_is a.hard_sphere_is ∙ ap finite v.hard_sphere_is)
-      (dual_value_tested are.reference_is a.reference_is ∙ ap finite v.reference_is)
-      (dual_value_tested are.attractive_is a.attractive_is ∙ ap finite v.attractive_is)
+      (dual_value_tested are_sloped.hard_sphere_is a.hard_sphere_is ∙ ap finite v.hard_sphere_is)
+      (dual_value_tested are_sloped.reference_is a.reference_is ∙ ap finite v.reference_is)
+      (dual_value_tested are_sloped.attractive_is a.attractive_is ∙ ap finite v.attractive_is)
 
   module _ {b : Bool} (b_is : b ≡ Dual.ok e.hard_sphere && Dual.ok e.reference && Dual.ok e.attractive) where
     slopes_tested : b ≡ all Dual.ok (slopes_of c)
     slopes_tested =
         let a = Sloped.contributions_agree c.perturbation c.mixture c.state in
-        b_is ∙ each_same (dual_tested are.hard_sphere_is a.hard_sphere_is) (dual_tested are.reference_is a.reference_is) (dual_tested are.attractive_is a.attractive_is)
+        b_is ∙ each_same (dual_tested are_sloped.hard_sphere_is a.hard_sphere_is) (dual_tested are_sloped.reference_is a.reference_is) (dual_tested are_sloped.attractive_is a.attractive_is)
 
     module _ {v : Bool} (v_is : v ≡ finite e.hard_sphere.value && finite e.reference.value && finite e.attractive.value) where
       pub slopes_worked : result_and (first_failing ((Due.Arithmetic, v) ∷ [])) (result_and (first_failing ((Due.Slopes, b) ∷ [])) (Ok (Slopes e.hard_sphere e.reference e.attractive)))
@@ -172,7 +187,7 @@ module _ (c : Case) {e : HeldDuals} (are : DualsOf e (contributions guarded_slop
               rw (
                 sym (values_tested v_is) ∙ k,
                 sym slopes_tested ∙ h,
-                dual_is are.hard_sphere_is a.hard_sphere_is t.0,
-                dual_is are.reference_is a.reference_is t.1,
-                dual_is are.attractive_is a.attractive_is t.2,
+                dual_is are_sloped.hard_sphere_is a.hard_sphere_is t.0,
+                dual_is are_sloped.reference_is a.reference_is t.1,
+                dual_is are_sloped.attractive_is a.attractive_is t.2,
               )

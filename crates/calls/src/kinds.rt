@@ -7,8 +7,11 @@ ghost use Rattle.calls.specs.declared.kinds.Kind.TheVariants as Kinds;
 use answer::Answer;
 use case_record::case::{BoundedCase, case_of};
 use checks::{envelope, require, state, substances};
+use eos::contributions::contributions;
 use eos::states::{sent, started};
+use num_dual::double::Double;
 use operations::basic::is_finite;
+use range::basic::Range;
 use refusal::Refusal;
 
 // What a call answers with: the three energies, their ends, or the energies with their slopes.
@@ -31,12 +34,12 @@ fn energies_of(c: BoundedCase) -> Result<Answer, Refusal>
     ensures { result ≡ worked_of Kinds.Energies c.case }
 {
     let c = c.case;
-    let e = eos::doubles::contributions(c.perturbation, c.mixture, c.state);
-    require(
-        are_finite(e.hard_sphere, e.reference, e.attractive),
-        Refusal::Arithmetic,
-    )?;
-    Ok(Answer::Energies(e.hard_sphere, e.reference, e.attractive))
+    let e = contributions::<Double>(c.perturbation, &c.mixture, &sent(&c.state));
+    let x = f64::from(e.hard_sphere);
+    let y = f64::from(e.reference);
+    let z = f64::from(e.attractive);
+    require(are_finite(x, y, z), Refusal::Arithmetic)?;
+    Ok(Answer::Energies(x, y, z))
 }
 
 // The ranges of the three, or code 10.
@@ -44,7 +47,7 @@ fn ranges_of(c: BoundedCase) -> Result<Answer, Refusal>
     ensures { result ≡ tested (beyond Kinds.Ends c.case) (result_of Kinds.Ends c.case) }
 {
     let c = c.case;
-    let e = eos::ranges::contributions(c.perturbation, c.mixture, sent(c.state));
+    let e = contributions::<Range>(c.perturbation, &c.mixture, &sent(&c.state));
     let are_ok = e.hard_sphere.is_ok() & e.reference.is_ok() & e.attractive.is_ok();
     require(are_ok, Refusal::Ends)?;
     Ok(Answer::Ends(e.hard_sphere, e.reference, e.attractive))
@@ -63,7 +66,7 @@ fn slopes_of(c: BoundedCase) -> Result<Answer, Refusal>
     ensures { result ≡ worked_of Kinds.Slopes c.case }
 {
     let c = c.case;
-    let e = eos::slopes::contributions(c.perturbation, c.mixture, started(c.state));
+    let e = contributions(c.perturbation, &c.mixture, &started(&c.state));
     require(
         are_finite(e.hard_sphere.value, e.reference.value, e.attractive.value),
         Refusal::Arithmetic,
