@@ -1,2 +1,0 @@
--- Laws for the lengths.
-pub mod Lengths

@@ -1,2 +1,0 @@
--- The lengths as the code on ranges holds them.
-pub mod Lengths
