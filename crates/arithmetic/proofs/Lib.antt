@@ -27,3 +27,4 @@ pub mod PartialSums
 pub mod Series
 pub mod ExpReduction
 pub mod LnReduction
+pub mod Repeated

@@ -1,7 +1,7 @@
 -- The tests of the definitions, as a program makes them: by comparing doubles.
 use mathlib.Core.Path.{◌≡◌, refl, sym, ap, subst, ◌∙◌}
 use native.Mathlib.Omega.{arith}
-use mathlib.Core.Bool.{Bool, true, false, not, ◌&&◌, false≢true}
+use mathlib.Core.Bool.{Bool, true, false, cond, not, ◌&&◌, false≢true}
 use mathlib.Core.Logic.{inl, inr}
 use lib.Dec.{T, not_T, T_not}
 use lib.IntN.{pos}
@@ -11,7 +11,7 @@ use lib.Ieee.Bits.{is_true}
 use Rattle.arithmetic.specs.Fraction.{◌≼◌, ◌≺◌, ◌≺?◌, ◌⊕◌, opp}
 use Rattle.arithmetic.specs.Value.{value}
 use Rattle.arithmetic.specs.Basic.{below, above, passes}
-use Rattle.arithmetic.specs.Doubles.{where_finite}
+use Rattle.arithmetic.specs.Doubles.{where_finite, tested}
 use Rattle.arithmetic.proofs.Fraction.{≺?→≺, ≺→≺?, ≺-not-≼, ≼-or-≻}
 use Rattle.arithmetic.proofs.Value.{lt→≺, ≺→lt, le→≼, ≼→le}
 use Rattle.arithmetic.proofs.Rounding.{sub_is, rounded_zero}
@@ -54,6 +54,12 @@ below_is x c p q = ≺?-is x c p q
 
 pub above_is : (x c : Float) → T (finite x) → T (finite c) → passes (above c) (value x) ≡ lt c x
 above_is x c p q = ≺?-is c x q p
+
+-- the case at a threshold, as the code works it
+pub if_below_is : (x t a b : Float) → T (finite t) → where_finite x (cond (lt x t) a b) ≡ tested (below t) x a b
+if_below_is nan t a b q = refl
+if_below_is (inf s) t a b q = refl
+if_below_is (fin s m e) t a b q = rw (below_is (fin s m e) t tt q)
 
 -- a number less itself is zero, and an infinity less itself is NaN
 pub finite_is : (x : Float) → eq (sub binary64 x x) (of_bits binary64 0) ≡ finite x

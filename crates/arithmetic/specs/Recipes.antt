@@ -3,6 +3,12 @@ use Rattle.std.specs.Prelude.{List, [], ◌∷◌, ℤ, neg_ℤ, Float}
 use Rattle.arithmetic.specs.Basic.{Basic, below, above, exponent, floor}
 use Rattle.arithmetic.specs.Constants.{zero_d, half, one, two, quarter, minus_quarter, minus_one, seven_hundred, minus_seven_hundred, twenty, minus_twenty, L, E, H, G, odd_reciprocals, factorial_reciprocals}
 
+-- Horner's rule, from the last coefficient on: a step takes what was worked so far and the next coefficient.
+module _ {V : Type 0} (constant : Float → V) (step : V → Float → V) where
+  abbrev pub horner_by : Float → List Float → V
+  horner_by c [] = constant c
+  horner_by c (d ∷ cs) = step (horner_by d cs) c
+
 module _ (A : Basic) where
   open A use {Value, constant, add as ◌+◌, sub as ◌-◌, mul as ◌*◌, div as ◌/◌, whole, scale, none, test, step}
 
@@ -12,8 +18,7 @@ module _ (A : Basic) where
   infixl 70 ◌/◌
   -- c + z * (d + z * ..)
   abbrev pub horner : Value → Float → List Float → Value
-  horner z c [] = constant c
-  horner z c (d ∷ cs) = horner z d cs * z + constant c
+  horner z = horner_by constant (λ p c. p * z + constant c)
 
   -- (2s) × p, with p in z = s × s over the doubles of 1 / (2k + 1)
   unfoldable pub series : Value → Value

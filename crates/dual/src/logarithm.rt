@@ -4,6 +4,7 @@ ghost use Rattle.dual.specs.Rules.{guarded_slopes};
 
 use crate::basic::Dual;
 
+#[tactic(auto, unfolding(crate::specs::Rules::ln))]
 pub fn ln(v: Dual) -> Dual
     ensures { result ≡ guarded_slopes.ln v }
 {
@@ -15,6 +16,7 @@ pub fn ln(v: Dual) -> Dual
 }
 
 // The natural logarithm of 1 + v.
+#[tactic(auto, unfolding(crate::specs::Rules::ln1p))]
 pub fn ln_1p(v: Dual) -> Dual
     ensures { result ≡ guarded_slopes.ln1p v }
 {

@@ -54,14 +54,20 @@ pub fn power_of_two(k: i64) -> f64
     f64::from_bits((k + 1023) as u64 * 0x10_0000_0000_0000)
 }
 
+// The sum of r^j/j!, j 0 to 13.
+fn polynomial(r: f64) -> f64
+    ensures { result ≡ R.exp_polynomial plain r }
+{
+    horner(&FACTORIALS, |p: f64, c| p * r + c)
+}
+
 // exp of v, by its k.
 fn exp_of(v: f64, k: i64) -> f64
     requires { T (int_le (negsuc 1021) k) × T (int_le k (pos 1023)) }
     ensures { result ≡ R.exp_of plain v k }
 {
     let w = k as f64;
-    let c = FACTORIALS;
-    horner(&c, v - w * H - w * G) * power_of_two(k)
+    polynomial(v - w * H - w * G) * power_of_two(k)
 }
 
 // e^v. Below -700 it is 0; above 700 there is no rule.

@@ -37,8 +37,8 @@ pub const ODDS: [f64; 13] = [
 fn series(s: f64) -> f64
     ensures { result ≡ R.series plain s }
 {
-    let c = ODDS;
-    2.0 * s * horner(&c, s * s)
+    let z = s * s;
+    2.0 * s * horner(&ODDS, |p: f64, c| p * z + c)
 }
 
 // m * 2^e with 0.75 <= m < 1.5.
@@ -69,6 +69,7 @@ pub fn split(b: u64) -> Reduced
 }
 
 // ln of m * 2^e.
+#[tactic(auto, unfolding(arithmetic::specs::Recipes::ln_of))]
 fn ln_of(m: f64, e: i64) -> f64
     requires { T (in_float binary64 e) }
     ensures { result ≡ R.ln_of plain m e }

@@ -1,19 +1,19 @@
-// Horner's rule in doubles.
-ghost use Rattle.std.specs.Prelude.{◌≡◌, ◌<◌, length, drop, slice_index_or};
+// Horner's rule.
+ghost use Rattle.std.specs.Prelude.{◌≡◌, ◌<◌, length, drop, slice_index_or, Float};
 ghost use Rattle.std.specs.Float.{nan};
 ghost use Rattle.arithmetic.specs.Recipes as R;
-ghost use Rattle.arithmetic.specs.Doubles.{plain};
 
-// Horner: c[0] + z * (c[1] + z * ..), worked from the last coefficient on.
-pub fn horner(c: &[f64], z: f64) -> f64
-    requires { 0 < length c.now }
-    ensures { result ≡ R.horner plain z (slice_index_or c.now 0 nan) (drop 1 c.now) }
+// c[0] + z * (c[1] + z * ..), worked from the last coefficient on: a step is p * z + c, of what was worked so far and the next coefficient.
+pub fn horner<V: Copy + From<f64>, S: Fn(V, f64) -> V>(c: &[f64], step: S) -> V
+    requires some { 0 < length c.now }
+    requires callable { S.IsAlwaysCallable step }
+    ensures { (of : Float → V) (by : V → Float → V) → ((x : Float) (r : V) → V.from_gives x r → r ≡ of x) → ((p : V) (x : Float) (r : V) → S.post step p x r → r ≡ by p x)
+        → result ≡ R.horner_by of by (slice_index_or c.now 0 nan) (drop 1 c.now) }
 {
-    let mut k = c.len() - 1;
-    let mut p = c[k];
-    while k > 0 {
-        k -= 1;
-        p = p * z + c[k];
+    let last = c.len() - 1;
+    let mut p = V::from(c[last]);
+    for k in (0..last).rev() {
+        p = step(p, c[k]);
     }
     p
 }

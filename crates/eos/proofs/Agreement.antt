@@ -16,7 +16,7 @@ pub record Agree (g d : Contributions Float) : Type 0 where
   pub reference_is : checked g.reference ≡ d.reference
   pub attractive_is : checked g.attractive ≡ d.attractive
 
-pub contributions_agree : (perturbation : Perturbation) (m : Mixture) (s : State) → Agree (contributions guarded perturbation m (state guarded s)) (contributions doubles perturbation m (state doubles s))
+pub contributions_agree : (perturbation : Perturbation) (m : Mixture) (s : State Float) → Agree (contributions guarded perturbation m (state guarded s)) (contributions doubles perturbation m (state doubles s))
 contributions_agree perturbation m s =
     let kept = as_sent guarded doubles Same agreement m perturbation s in
     record { hard_sphere_is = kept.hard_sphere_is.is; reference_is = kept.reference_is.is; attractive_is = kept.attractive_is.is }

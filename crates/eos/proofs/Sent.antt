@@ -17,5 +17,5 @@ module _ {X Y : Type 0} (A : Arithmetic X) (B : Arithmetic Y) (R : X → Y → T
   on_states perturbation s = contributions_kept A B R K (sent m) s perturbation
 
   -- on a state as sent
-  pub as_sent : (perturbation : Perturbation) (s : HeldState) → Related A B R K (contributions A perturbation m (state A s)) (contributions B perturbation m (state B s))
+  pub as_sent : (perturbation : Perturbation) (s : HeldState Float) → Related A B R K (contributions A perturbation m (state A s)) (contributions B perturbation m (state B s))
   as_sent perturbation s = on_states perturbation (mapped (λ (x : Float). both_of R (K.constant x)) (held s))

@@ -12,7 +12,7 @@ use Rattle.uvtheory.specs.declared.parameters.Mixture.{Mixture}
 use Rattle.uvtheory.specs.declared.parameters.State.{State}
 use Rattle.uvtheory.specs.declared.contributions.Contributions.{Contributions}
 use Rattle.uvtheory.specs.Inputs.{state}
-use Rattle.uvtheory.specs.Rows.{row}
+use Rattle.uvtheory.specs.Rows.{doubles as entries}
 use Rattle.eos.specs.Contributions.{contributions}
 use Rattle.eos.specs.Slopes.{started}
 use Rattle.eos.proofs.Sent.{on_states}
@@ -22,12 +22,12 @@ pub record ValuesAre (c : Contributions Dual) (d : Contributions Float) : Type 0
   pub reference_is : c.reference.value ≡ d.reference
   pub attractive_is : c.attractive.value ≡ d.attractive
 
-pub values_are : (perturbation : Perturbation) (m : Mixture) (s : State) → ValuesAre (contributions slopes perturbation m (started strict s)) (contributions doubles perturbation m (state doubles s))
+pub values_are : (perturbation : Perturbation) (m : Mixture) (s : State Float) → ValuesAre (contributions slopes perturbation m (started strict s)) (contributions doubles perturbation m (state doubles s))
 values_are perturbation m s =
     let kept = on_states slopes doubles Holds values m perturbation record {
       temperature = both_of Holds (values.constant s.temperature);
-      partial_density = λ i. both_of Holds (start_holds (row s.partial_density i) (row s.molefracs i));
-      molefracs = λ i. both_of Holds (values.constant (row s.molefracs i));
+      partial_density = λ i. both_of Holds (start_holds (entries s.partial_density i) (entries s.molefracs i));
+      molefracs = λ i. both_of Holds (values.constant (entries s.molefracs i));
     } in
     record { hard_sphere_is = kept.hard_sphere_is.is; reference_is = kept.reference_is.is; attractive_is = kept.attractive_is.is }
 
@@ -36,11 +36,11 @@ pub record Agree (g d : Contributions Dual) : Type 0 where
   pub reference_is : Same g.reference d.reference
   pub attractive_is : Same g.attractive d.attractive
 
-pub contributions_agree : (perturbation : Perturbation) (m : Mixture) (s : State) → Agree (contributions guarded_slopes perturbation m (started plain s)) (contributions slopes perturbation m (started strict s))
+pub contributions_agree : (perturbation : Perturbation) (m : Mixture) (s : State Float) → Agree (contributions guarded_slopes perturbation m (started plain s)) (contributions slopes perturbation m (started strict s))
 contributions_agree perturbation m s =
     let kept = on_states guarded_slopes slopes Same agreement m perturbation record {
       temperature = both_of Same (agreement.constant s.temperature);
-      partial_density = λ i. both_of Same (start_kept (row s.partial_density i) (row s.molefracs i));
-      molefracs = λ i. both_of Same (agreement.constant (row s.molefracs i));
+      partial_density = λ i. both_of Same (start_kept (entries s.partial_density i) (entries s.molefracs i));
+      molefracs = λ i. both_of Same (agreement.constant (entries s.molefracs i));
     } in
     record { hard_sphere_is = kept.hard_sphere_is; reference_is = kept.reference_is; attractive_is = kept.attractive_is }

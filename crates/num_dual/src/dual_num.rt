@@ -66,6 +66,9 @@ pub trait DualNum:
 
     ghost div_is: { (a b r : Self) → Self.div_gives a b r → r ≡ arithmetic.div a b };
 
+    // A power of one factor.
+    ghost powi_one: { (a : Self) → arithmetic.powi a 1 ≡ a };
+
     // Sums go from the left.
     ghost sum_start: { (f : ℕ → Self) → arithmetic.sum 0 f ≡ arithmetic.constant zero_d };
 

@@ -8,7 +8,7 @@ use Rattle.arithmetic.specs.Fraction.{Fraction, null}
 use Rattle.arithmetic.specs.Basic.{below}
 use Rattle.arithmetic.specs.Arithmetic.{Arithmetic}
 use Rattle.arithmetic.specs.Doubles.{doubles}
-use Rattle.arithmetic.proofs.Both.{Kept, both}
+use Rattle.arithmetic.proofs.Both.{Both, Kept, both}
 use Rattle.range.specs.declared.basic.Range.{Range}
 use Rattle.range.specs.Exact.{Reading, Choices, part, exact}
 use Rattle.range.specs.Enclosed.{Ok, Enclosed}

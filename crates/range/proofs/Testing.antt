@@ -20,20 +20,33 @@ pub has_ends : (r : Range) → ok r ≡ true → Ok r
 has_ends r k = subst T (sym k) tt
 
 -- ---- by a limit
-module _ (r : Range) (k : ok r ≡ true) where
-  module _ (t : Float) (f : T (finite t)) (x y : Range) where
-    pub below_test : test (below t) r x y ≡ agreed (lt r.lower t) (lt r.upper t) x y
-    unfolding test
-    below_test = rw (k, below_is r.lower t (lower_finite r (has_ends r k)) f, below_is r.upper t (upper_finite r (has_ends r k)) f)
+module _ (r : Range) (t : Float) (f : T (finite t)) (x y : Range) where
+  pub below_test : ok r ≡ true → test (below t) r x y ≡ agreed (lt r.lower t) (lt r.upper t) x y
+  unfolding test
+  below_test k = rw (k, below_is r.lower t (lower_finite r (has_ends r k)) f, below_is r.upper t (upper_finite r (has_ends r k)) f)
 
-    pub above_test : test (above t) r x y ≡ agreed (lt t r.lower) (lt t r.upper) x y
-    unfolding test
-    above_test = rw (k, above_is r.lower t (lower_finite r (has_ends r k)) f, above_is r.upper t (upper_finite r (has_ends r k)) f)
+  pub above_test : ok r ≡ true → test (above t) r x y ≡ agreed (lt t r.lower) (lt t r.upper) x y
+  unfolding test
+  above_test k = rw (k, above_is r.lower t (lower_finite r (has_ends r k)) f, above_is r.upper t (upper_finite r (has_ends r k)) f)
 
 -- a failed range has no case
 pub failed_case : (l : Limit) (r x y : Range) → ok r ≡ false → test l r x y ≡ failed
 unfolding test
 failed_case l r x y k = rw k
+
+-- the test, as the code makes it
+case_is : (l : Limit) (r x y z : Range) → (ok r ≡ true → test l r x y ≡ z) → cond (ok r) z failed ≡ test l r x y
+case_is l r x y z h = go (ok r) refl
+  where
+    go : (b : Bool) → ok r ≡ b → cond b z failed ≡ test l r x y
+    go true e = sym (h e)
+    go false e = sym (failed_case l r x y e)
+
+pub case_below : (r : Range) (t : Float) (x y : Range) → T (finite t) → cond (ok r) (agreed (lt r.lower t) (lt r.upper t) x y) failed ≡ test (below t) r x y
+case_below r t x y f = case_is (below t) r x y _ (below_test r t f x y)
+
+pub case_above : (r : Range) (t : Float) (x y : Range) → T (finite t) → cond (ok r) (agreed (lt t r.lower) (lt t r.upper) x y) failed ≡ test (above t) r x y
+case_above r t x y f = case_is (above t) r x y _ (above_test r t f x y)
 
 -- what is worked where the test fails may be anything elsewhere
 pub test_else : (l : Limit) (r x y z : Range) → (ok r ≡ true → passes l (value r.lower) ≡ false → y ≡ z) → test l r x y ≡ test l r x z

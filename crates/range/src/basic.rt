@@ -1,5 +1,5 @@
 // The struct of two ends, and the rules of negation, sum, difference, product, quotient, power, root and the case at a threshold.
-ghost use Rattle.std.specs.Prelude.{◌≡◌, T};
+ghost use Rattle.std.specs.Prelude.{◌≡◌, T, cond, Float};
 ghost use Rattle.std.specs.Float.Ieee as Ieee;
 ghost use Rattle.std.specs.Float.{binary64};
 ghost use Rattle.std.specs.Float.Ieee.{lt, le};
@@ -10,9 +10,10 @@ ghost use Rattle.range.specs.Positive.{positive};
 ghost use Rattle.range.specs.Rules as Rules;
 ghost use Rattle.range.specs.Rules.{rules, ranges};
 
-use operations::basic::is_finite;
+use operations::basic::{is_finite, power};
 use operations::next::{next_down, next_up};
 use operations::root::sqrt;
+use std::ops::{Add, Div, Mul, Neg, Sub};
 
 // Two ends. A range whose rule failed has ends that are NaN.
 #[derive(Clone, Copy)]
@@ -22,6 +23,7 @@ pub struct Range {
 }
 
 // The range whose rule failed.
+#[tactic(auto, using(arithmetic::proofs::Tests::zero_by_zero))]
 pub fn failed() -> Range
     ensures { result ≡ Rules.failed }
 {
@@ -40,6 +42,7 @@ fn plus_zero(x: f64) -> f64
 }
 
 // The range of two ends, which must be finite.
+#[tactic(auto, unfolding(crate::specs::Rules::ends), using(arithmetic::proofs::Tests::zero_by_zero))]
 pub fn ends(l: f64, u: f64) -> Range
     ensures { result ≡ Rules.ends l u }
 {
@@ -106,12 +109,14 @@ fn outwards_below(l: f64, u: f64) -> Range
 }
 
 // Both choices are written with <, for which x86 has an instruction (minsd, maxsd).
+#[tactic(auto, unfolding(crate::specs::Rules::least))]
 fn least(x: f64, y: f64) -> f64
     ensures { result ≡ Rules.least x y }
 {
     if y < x { y } else { x }
 }
 
+#[tactic(auto, unfolding(crate::specs::Rules::greatest))]
 fn greatest(x: f64, y: f64) -> f64
     ensures { result ≡ Rules.greatest x y }
 {
@@ -128,12 +133,6 @@ impl Range {
         lower: 1.0,
         upper: 1.0,
     };
-
-    pub fn constant(x: f64) -> Range
-        ensures { result ≡ ranges.constant x }
-    {
-        ends(x, x)
-    }
 
     // Whether both ends are finite.
     pub fn is_ok(self) -> bool
@@ -174,16 +173,84 @@ impl Range {
         self.upper < 0.0
     }
 
-    pub fn neg(self) -> Range
-        ensures { result ≡ ranges.neg self }
+    // self * self * .. from the left, k factors; with none it is 1.
+    #[tactic(auto, using(crate::proofs::Constants::one_constant))]
+    pub fn powi(self, k: u64) -> Range
+        ensures { result ≡ ranges.powi self k }
     {
-        ends(-self.upper, -self.lower)
+        power(Range::ONE, self, k)
     }
 
-    // Most sums and products are of ranges above 0. These are worked here, short enough to be inlined; the others are calls that take the four ends.
-    pub fn add(self, other: Range) -> Range
-        ensures { result ≡ ranges.add self other }
+    #[tactic(auto, unfolding(crate::specs::Rules::sqrt))]
+    pub fn sqrt(self) -> Range
+        ensures { result ≡ ranges.sqrt self }
     {
+        if !self.is_ok() {
+            return failed();
+        }
+        if self.is_zero() {
+            return Range::ZERO;
+        }
+        if self.lower < 0.0 {
+            return failed();
+        }
+        outwards(sqrt(self.lower), sqrt(self.upper))
+    }
+
+    // a where both ends have a case, b where neither has.
+    fn case(self, lower: bool, upper: bool, a: Range, b: Range) -> Range
+        ensures { result ≡ cond (Rules.ok self) (Rules.agreed lower upper a b) Rules.failed }
+    {
+        let x = agreed(lower, upper, a, b);
+        if self.is_ok() { x } else { failed() }
+    }
+
+    // a where the whole range is below t, b where none of it is.
+    #[tactic(auto, using(crate::proofs::Testing::case_below))]
+    pub fn if_below(self, t: f64, a: Range, b: Range) -> Range
+        requires { T (finite t) }
+        ensures { result ≡ ranges.if_below self t a b }
+    {
+        self.case(self.lower < t, self.upper < t, a, b)
+    }
+
+    // a where the whole range is above t, b where none of it is.
+    #[tactic(auto, using(crate::proofs::Testing::case_above))]
+    pub fn if_above(self, t: f64, a: Range, b: Range) -> Range
+        requires { T (finite t) }
+        ensures { result ≡ rules.test (above t) self a b }
+    {
+        self.case(self.lower > t, self.upper > t, a, b)
+    }
+}
+
+impl From<f64> for Range {
+    ghost from_gives = { λ x r. r ≡ ranges.constant x };
+
+    #[tactic(auto, unfolding(crate::specs::Rules::point))]
+    fn from(x: f64) -> Range {
+        ends(x, x)
+    }
+}
+
+impl Neg for Range {
+    type Output = Range;
+
+    ghost neg_gives = { λ a r. r ≡ ranges.neg a };
+
+    #[tactic(auto, unfolding(crate::specs::Rules::neg))]
+    fn neg(self) -> Range {
+        ends(-self.upper, -self.lower)
+    }
+}
+
+// Most sums and products are of ranges above 0. These are worked here, short enough to be inlined; the others are calls that take the four ends.
+impl Add for Range {
+    type Output = Range;
+
+    ghost add_gives = { λ a b r. r ≡ ranges.add a b };
+
+    fn add(self, other: Range) -> Range {
         let l = self.lower + other.lower;
         let u = self.upper + other.upper;
         if self.lower > 0.0 {
@@ -201,16 +268,24 @@ impl Range {
             upper: sum.upper,
         }
     }
+}
 
-    pub fn sub(self, other: Range) -> Range
-        ensures { result ≡ ranges.sub self other }
-    {
-        self.add(other.neg())
+impl Sub for Range {
+    type Output = Range;
+
+    ghost sub_gives = { λ a b r. r ≡ ranges.sub a b };
+
+    fn sub(self, other: Range) -> Range {
+        self + -other
     }
+}
 
-    pub fn mul(self, other: Range) -> Range
-        ensures { result ≡ ranges.mul self other }
-    {
+impl Mul for Range {
+    type Output = Range;
+
+    ghost mul_gives = { λ a b r. r ≡ ranges.mul a b };
+
+    fn mul(self, other: Range) -> Range {
         if self.is_positive() {
             if other.is_positive() {
                 let l = self.lower * other.lower;
@@ -228,10 +303,15 @@ impl Range {
             upper: product.upper,
         }
     }
+}
 
-    pub fn div(self, other: Range) -> Range
-        ensures { result ≡ ranges.div self other }
-    {
+impl Div for Range {
+    type Output = Range;
+
+    ghost div_gives = { λ a b r. r ≡ ranges.div a b };
+
+    #[tactic(auto, unfolding(crate::specs::Rules::div))]
+    fn div(self, other: Range) -> Range {
         if !self.is_ok() {
             return failed();
         }
@@ -244,60 +324,12 @@ impl Range {
         if self.is_zero() {
             return Range::ZERO;
         }
-        quotients(self, other)
-    }
-
-    // self * self * .. from the left, k factors; with none it is 1.
-    pub fn powi(self, k: u64) -> Range
-        ensures { result ≡ ranges.powi self k }
-    {
-        if k == 0 {
-            return Range::ONE;
-        }
-        let mut r = self;
-        let mut i: u64 = 1;
-        while i < k {
-            r = r.mul(self);
-            i += 1;
-        }
-        r
-    }
-
-    pub fn sqrt(self) -> Range
-        ensures { result ≡ ranges.sqrt self }
-    {
-        if !self.is_ok() {
-            return failed();
-        }
-        if self.is_zero() {
-            return Range::ZERO;
-        }
-        if self.lower < 0.0 {
-            return failed();
-        }
-        outwards(sqrt(self.lower), sqrt(self.upper))
-    }
-
-    // a where the whole range is below t, b where none of it is.
-    pub fn if_below(self, t: f64, a: Range, b: Range) -> Range
-        requires { T (finite t) }
-        ensures { result ≡ ranges.if_below self t a b }
-    {
-        let x = agreed(self.lower < t, self.upper < t, a, b);
-        if self.is_ok() { x } else { failed() }
-    }
-
-    // a where the whole range is above t, b where none of it is.
-    pub fn if_above(self, t: f64, a: Range, b: Range) -> Range
-        requires { T (finite t) }
-        ensures { result ≡ rules.test (above t) self a b }
-    {
-        let x = agreed(self.lower > t, self.upper > t, a, b);
-        if self.is_ok() { x } else { failed() }
+        four(|a, b| a / b, self, other)
     }
 }
 
 // The sum of any two ranges, by their ends.
+#[tactic(auto, unfolding(crate::specs::Rules::add))]
 pub fn sum_of(rl: f64, ru: f64, sl: f64, su: f64) -> Range
     ensures { result ≡ ranges.add (Rules.range rl ru) (Rules.range sl su) }
 {
@@ -325,6 +357,7 @@ pub fn sum_of(rl: f64, ru: f64, sl: f64, su: f64) -> Range
 }
 
 // The product of any two ranges, by their ends.
+#[tactic(auto, unfolding(crate::specs::Rules::mul))]
 pub fn product_of(rl: f64, ru: f64, sl: f64, su: f64) -> Range
     ensures { result ≡ ranges.mul (Rules.range rl ru) (Rules.range sl su) }
 {
@@ -348,7 +381,7 @@ pub fn product_of(rl: f64, ru: f64, sl: f64, su: f64) -> Range
     if s.is_zero() {
         return Range::ZERO;
     }
-    products(r, s)
+    four(|a, b| a * b, r, s)
 }
 
 // One case for both ends: a where both have it, b where neither has.
@@ -377,26 +410,16 @@ fn outermost(a: f64, b: f64, c: f64, d: f64) -> Range
     )
 }
 
-// The range of the four products of ends.
-fn products(r: Range, s: Range) -> Range
-    ensures { result ≡ Rules.four (Ieee.mul binary64) r s }
+// The range of the four results at ends of r and of s.
+#[tactic(auto, unfolding(crate::specs::Rules::four))]
+fn four<F: Fn(f64, f64) -> f64>(op: F, r: Range, s: Range) -> Range
+    requires { F.IsAlwaysCallable op }
+    ensures { (o : Float → Float → Float) → ((a b c : Float) → F.post op a b c → c ≡ o a b) → result ≡ Rules.four o r s }
 {
     outermost(
-        r.lower * s.lower,
-        r.lower * s.upper,
-        r.upper * s.lower,
-        r.upper * s.upper,
-    )
-}
-
-// The range of the four quotients of ends.
-fn quotients(r: Range, s: Range) -> Range
-    ensures { result ≡ Rules.four (Ieee.div binary64) r s }
-{
-    outermost(
-        r.lower / s.lower,
-        r.lower / s.upper,
-        r.upper / s.lower,
-        r.upper / s.upper,
+        op(r.lower, s.lower),
+        op(r.lower, s.upper),
+        op(r.upper, s.lower),
+        op(r.upper, s.upper),
     )
 }

@@ -46,14 +46,13 @@ fn scale(r: Range, k: i64) -> Range
 }
 
 // exp of v, by its k.
+#[tactic(auto, unfolding(arithmetic::specs::Recipes::exp_of))]
 fn exp_of(v: Range, k: i64) -> Range
     requires { T (le_z (negsuc 1021) k) × T (le_z k (pos 1023)) }
     ensures { result ≡ R.exp_of rules v k }
 {
-    let w = Range::constant(k as f64);
-    let r = v
-        .sub(w.mul(Range::constant(H)))
-        .sub(w.mul(Range::constant(G)));
+    let w = Range::from(k as f64);
+    let r = v - w * Range::from(H) - w * Range::from(G);
     scale(horner(&FACTORIALS, r), k)
 }
 
@@ -62,7 +61,7 @@ fn exp_between(v: Range) -> Range
     ensures { Rules.ok v ≡ true → lt v.lower K.minus_seven_hundred ≡ false → lt K.seven_hundred v.lower ≡ false
         → result ≡ rules.step floor (rules.add (rules.mul v (rules.constant K.E)) (rules.constant K.half)) (λ k. R.exp_of rules v k) }
 {
-    let place = v.mul(Range::constant(E)).add(Range::constant(0.5));
+    let place = v * Range::from(E) + Range::from(0.5);
     if !place.is_ok() {
         return failed();
     }
@@ -113,6 +112,7 @@ fn is_one(v: Range) -> bool
 }
 
 // e^v. Below -700 it is 0; above 700 there is no rule.
+#[tactic(auto, unfolding(arithmetic::specs::Recipes::exp))]
 pub fn exp(v: Range) -> Range
     ensures { result ≡ ranges.exp v }
 {
@@ -122,6 +122,7 @@ pub fn exp(v: Range) -> Range
 
 // v^b, as exp(b * ln v). A base of 0 gives 0 where b is above 0.
 // A moderate power of [1, 1] is known, and is not worked: its logarithm has ends on either side of 0, for which no shorter way serves, and subnormal ones.
+#[tactic(auto, unfolding(arithmetic::specs::Recipes::powf))]
 pub fn powf(v: Range, b: Range) -> Range
     ensures { result ≡ ranges.powf v b }
 {
@@ -132,14 +133,15 @@ pub fn powf(v: Range, b: Range) -> Range
     }
     let zero = b.if_above(0.0, Range::ZERO, failed());
     let other = v.if_below(0.0, failed(), zero);
-    v.if_above(0.0, exp(b.mul(ln(v))), other)
+    v.if_above(0.0, exp(b * ln(v)), other)
 }
 
+#[tactic(auto, unfolding(arithmetic::specs::Recipes::tanh))]
 pub fn tanh(v: Range) -> Range
     ensures { result ≡ ranges.tanh v }
 {
-    let two = Range::constant(2.0);
-    let inner = Range::ONE.sub(two.div(exp(two.mul(v)).add(Range::ONE)));
-    let lower = v.if_below(-20.0, Range::constant(-1.0), inner);
+    let two = Range::from(2.0);
+    let inner = Range::ONE - two / (exp(two * v) + Range::ONE);
+    let lower = v.if_below(-20.0, Range::from(-1.0), inner);
     v.if_above(20.0, Range::ONE, lower)
 }

@@ -10,22 +10,25 @@ use elementary::logarithm::{L, ODDS, split};
 use range::basic::{Range, failed};
 
 // (2s) * p.
+#[tactic(auto, unfolding(arithmetic::specs::Recipes::series))]
 fn series(s: Range) -> Range
     ensures { result ≡ R.series rules s }
 {
-    Range::constant(2.0).mul(s).mul(horner(&ODDS, s.mul(s)))
+    Range::from(2.0) * s * horner(&ODDS, s * s)
 }
 
 // ln of m * 2^e.
+#[tactic(auto, unfolding(arithmetic::specs::Recipes::ln_of))]
 fn ln_of(m: Range, e: i64) -> Range
     requires { T (in_float binary64 e) }
     ensures { result ≡ R.ln_of rules m e }
 {
-    let s = m.sub(Range::ONE).div(m.add(Range::ONE));
-    series(s).add(Range::constant(e as f64).mul(Range::constant(L)))
+    let s = (m - Range::ONE) / (m + Range::ONE);
+    series(s) + Range::from(e as f64) * Range::from(L)
 }
 
 // The natural logarithm of a range above 0, both of whose ends have one e.
+#[tactic(auto, unfolding(arithmetic::specs::Recipes::ln))]
 pub fn ln(v: Range) -> Range
     ensures { result ≡ ranges.ln v }
 {
@@ -51,11 +54,12 @@ pub fn ln(v: Range) -> Range
 }
 
 // The natural logarithm of 1 + v.
+#[tactic(auto, unfolding(arithmetic::specs::Recipes::ln1p))]
 pub fn ln_1p(v: Range) -> Range
     ensures { result ≡ ranges.ln1p v }
 {
-    let far = ln(Range::ONE.add(v));
-    let near = series(v.div(Range::constant(2.0).add(v)));
+    let far = ln(Range::ONE + v);
+    let near = series(v / (Range::from(2.0) + v));
     let below = v.if_above(-1.0, far, failed());
     let within = v.if_above(0.25, far, near);
     v.if_below(-0.25, below, within)

@@ -1,5 +1,5 @@
 // Horner's rule in ranges.
-ghost use Rattle.std.specs.Prelude.{◌≡◌, ◌<◌, length, get_or, drop};
+ghost use Rattle.std.specs.Prelude.{◌≡◌, ◌<◌, length, slice_index_or, drop};
 ghost use Rattle.std.specs.Float.{nan};
 ghost use Rattle.arithmetic.specs.Recipes as R;
 ghost use Rattle.range.specs.Rules as Rules;
@@ -12,7 +12,7 @@ fn step_of(pl: f64, pu: f64, zl: f64, zu: f64, c: f64) -> Range
     ensures { result ≡ rules.add (rules.mul (Rules.range pl pu) (Rules.range zl zu)) (rules.constant c) }
 {
     let q = product_of(pl, pu, zl, zu);
-    let d = Range::constant(c);
+    let d = Range::from(c);
     sum_of(q.lower, q.upper, d.lower, d.upper)
 }
 
@@ -26,7 +26,7 @@ fn step_below(p: Range, z: Range, c: f64) -> Range
     };
     if p.is_positive() {
         if w.is_positive() {
-            let q = p.mul(w);
+            let q = p * w;
             let l = -q.upper + c;
             let u = -q.lower + c;
             if q.lower > 0.0 {
@@ -57,7 +57,7 @@ fn step(p: Range, z: Range, c: f64) -> Range
         return step_below(p, z, c);
     }
     if z.lower > 0.0 {
-        return p.mul(z).add(Range::constant(c));
+        return p * z + Range::from(c);
     }
     let r = step_of(p.lower, p.upper, z.lower, z.upper, c);
     Range {
@@ -69,13 +69,7 @@ fn step(p: Range, z: Range, c: f64) -> Range
 // c[0] + z * (c[1] + z * ..), worked from the last coefficient on.
 pub fn horner(c: &[f64], z: Range) -> Range
     requires { 0 < length c.now }
-    ensures { result ≡ R.horner rules z (get_or c.now 0 nan) (drop 1 c.now) }
+    ensures { result ≡ R.horner rules z (slice_index_or c.now 0 nan) (drop 1 c.now) }
 {
-    let mut k = c.len() - 1;
-    let mut p = Range::constant(c[k]);
-    while k > 0 {
-        k -= 1;
-        p = step(p, z, c[k]);
-    }
-    p
+    elementary::series::horner(c, |p: Range, x| step(p, z, x))
 }

@@ -1,5 +1,5 @@
 -- A combined matrix is given on the diagonal, worked for i below j, and the same at (i, j) and (j, i).
-use Rattle.std.proofs.Common.{◌≡◌, ℕ, ◌/◌, ◌%◌, ◌<◌, List, sym, refl, ◌∙◌, subst, lt_trans, le_of_lt, arith, le-ltb, lt-ltb, eq-eqb, ne_eqb}
+use Rattle.std.proofs.Common.{◌≡◌, ℕ, ◌/◌, ◌%◌, ◌<◌, List, sym, refl, ◌∙◌, lt_trans, le_of_lt, arith, le-ltb, lt-ltb, eq-eqb, ne_eqb}
 use Rattle.arithmetic.specs.Arithmetic.{Arithmetic}
 use Rattle.uvtheory.specs.Parameters.{combined}
 use Rattle.uvtheory.specs.declared.parameters.Mixture.{Mixture}

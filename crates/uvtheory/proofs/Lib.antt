@@ -3,5 +3,4 @@ pub mod Place
 pub mod Combined
 pub mod Sums
 pub mod Loops
-pub mod Eight
 pub mod Kept

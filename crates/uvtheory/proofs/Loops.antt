@@ -1,5 +1,5 @@
 -- What a loop over components or pairs adds in one turn, and that sums agree whose terms agree.
-use Rattle.std.proofs.Common.{◌≡◌, ℕ, zero, suc, ◌+◌, ◌-◌, ◌*◌, ◌/◌, ◌%◌, ◌<◌, ◌≤◌, ◌⊎◌, List, length, get_or, set, sym, refl, ◌∙◌, subst, ap, ap₂, inl, inr, le_refl, le_of_suc-le-suc, lt_irrefl, mod-lt, suc-mul, div-lt_iff_lt-mul, add-mul, mul-le-mul, eq-or-lt_of_le, div-add-mod', add_left_cancel, add-one, arith, lit≤, length-set, get_or-set_other, get_or-set_same, w64, Fits}
+use Rattle.std.proofs.Common.{◌≡◌, ℕ, zero, suc, ◌+◌, ◌*◌, ◌/◌, ◌%◌, ◌<◌, ◌≤◌, ◌⊎◌, List, length, get_or, set, sym, refl, ◌∙◌, subst, ap, ap₂, inl, inr, le_refl, le_of_suc-le-suc, lt_irrefl, mod-lt, suc-mul, div-lt_iff_lt-mul, add-mul, mul-le-mul, eq-or-lt_of_le, div-add-mod', add_left_cancel, add-one, arith, get_or-set_other, get_or-set_same}
 use native.Mathlib.Nat.{div-eq_of_lt-le}
 use Rattle.arithmetic.specs.Constants.{zero_d}
 use Rattle.arithmetic.specs.Arithmetic.{Arithmetic, sum_by}
@@ -48,57 +48,8 @@ pair_column n i j h = let e = at_pair n (i * n + j) in let q = pair_row n i j h 
 mirrored : (n k : ℕ) → k % n < n → k % n < k / n → k / n < n → k % n * n + k / n < k
 mirrored n k c h r = let z : suc (k % n) * n ≤ k / n * n = mul-le-mul h (le_refl n) in omega (arith, suc-mul (k % n) n, z, at_pair n k)
 
--- ---- what an access asks, of doubles and of pairs of them. The loops answer by these facts, since `omega` would work each anew.
-pub record At (size i : ℕ) : Type 0 where
-  pub below : i < size
-  pub fits : Fits w64 (i * 8)
-  pub wide : Fits w64 (i * 16)
-  pub next : Fits w64 (i + 1)
-
-pub at : (size i : ℕ) → size ≤ 64 → i < size → At size i
-at size i h l = record { below = l; fits = omega arith; wide = omega arith; next = omega arith }
-
--- of the i-th of n components, and that fewer are left after it
-pub record InRow (n i : ℕ) : Type 0 where
-  pub place : At 8 i
-  pub less : n - (i + 1) < n - i
-
-pub in_row : (n i : ℕ) → n ≤ 8 → i < n → InRow n i
-in_row n i h l = record { place = at 8 i (lit≤ tt) (omega arith); less = omega arith }
-
--- of the k-th pair of n components, of the two components, and of the pair the other way round; and that fewer pairs are left after it
-pub record Bounds (n k : ℕ) : Type 0 where
-  pub some : 0 < n
-  pub row : At 8 (k / n)
-  pub column : At 8 (k % n)
-  pub pair : At 64 k
-  pub mirror_row : Fits w64 (k % n * n)
-  pub mirror_place : Fits w64 (k % n * n + k / n)
-  pub mirror : At 64 (k % n * n + k / n)
-  pub less : n * n - (k + 1) < n * n - k
-
 pub square_le : (n : ℕ) → n ≤ 8 → n * n ≤ 64
 square_le n h = mul-le-mul h h
-
-pub square_fits : (n : ℕ) → n ≤ 8 → Fits w64 (n * n)
-square_fits n h = let z = square_le n h in omega arith
-
-pub pair_within : (n k : ℕ) → n ≤ 8 → k < n * n → Bounds n k
-pair_within n k h l =
-    let s = square_le n h in
-    let r = row_of n k l in
-    let c = column_of n k l in
-    let z : suc (k % n) * n ≤ n * n = mul-le-mul c (le_refl n) in
-    let m : k % n * n + k / n < 64 = omega (arith, suc-mul (k % n) n, z) in record {
-      some = some_rows n k l;
-      row = at 8 (k / n) (lit≤ tt) (omega arith);
-      column = at 8 (k % n) (lit≤ tt) (omega arith);
-      pair = at 64 k (lit≤ tt) (omega arith);
-      mirror_row = omega arith;
-      mirror_place = omega arith;
-      mirror = at 64 (k % n * n + k / n) (lit≤ tt) m;
-      less = omega arith;
-    }
 
 -- ---- an array that is filled from its start; `none` is read past its end
 module _ {X : Type 0} (none : X) where
@@ -109,15 +60,12 @@ module _ {X : Type 0} (none : X) where
       go (inl p) = subst (λ (n : ℕ). get_or (set xs i v) n none ≡ f n) (sym p) (get_or-set_same xs i v none l ∙ e)
       go (inr q) = get_or-set_other xs i j v none (λ p. lt_irrefl i (subst (λ (n : ℕ). n < i) p q)) ∙ h j q
 
-  -- the first k pairs of an array for all
-  abbrev pub Filled : ℕ → ℕ → List X → (ℕ → ℕ → X) → Type 0
-  Filled n k xs f = (length xs ≡ 64) × RowOf none k xs (λ k. f (k / n) (k % n))
-
-  pub one_more : (n k : ℕ) (xs : List X) (f : ℕ → ℕ → X) (v : X) → k < 64 → Filled n k xs f → v ≡ f (k / n) (k % n) → Filled n (k + 1) (set xs k v) f
-  one_more n k xs f v l h e = (simp length-set h.0, row_set _ v k xs (let z = h.0 in omega arith) h.1 e)
-
   -- what stands at (j, i), while an array is filled up to (i, j) below the diagonal
   pub mirror : (f : ℕ → ℕ → X) (n k : ℕ) (xs : List X) → k < n * n → k % n < k / n → RowOf none k xs (λ k. f (k / n) (k % n)) → get_or xs (k % n * n + k / n) none ≡ f (k % n) (k / n)
   mirror f n k xs h l held =
       let r = row_of n k h in
       held (k % n * n + k / n) (mirrored n k (column_of n k h) l r) ∙ ap₂ f (pair_row n (k % n) (k / n) r) (pair_column n (k % n) (k / n) r)
+
+-- it is inside the array
+pub mirror_in : {X : Type 0} (n k : ℕ) (xs : List X) → n ≤ 8 → length xs ≡ 64 → k < n * n → k % n < k / n → k % n * n + k / n < length xs
+mirror_in n k xs few size h l = let a = mirrored n k (column_of n k h) l (row_of n k h) in let b = square_le n few in omega (arith, size)

@@ -1,5 +1,5 @@
 -- The sums over arrays that hold the formulas' values are the formulas' sums.
-use Rattle.std.proofs.Common.{◌≡◌, ℕ, ◌*◌, ◌/◌, ◌%◌, ◌<◌, ◌≤◌, List, get_or, replicate, refl, ap, ◌∙◌, ap₂, arith}
+use Rattle.std.proofs.Common.{◌≡◌, ℕ, ◌*◌, ◌/◌, ◌%◌, ◌<◌, ◌≤◌, List, get_or, replicate, ap, ◌∙◌, ap₂, arith}
 use lib.ListN.{get_or-replicate}
 use Rattle.arithmetic.specs.Arithmetic.{Arithmetic}
 use Rattle.uvtheory.specs.declared.parameters.Mixture.{Mixture}

@@ -46,7 +46,7 @@ fn coefficient_a<D: DualNum>(a: &[f64; 4], tau: D, rep_inv: D) -> D
         + tau * tau * (D::from(a[2]) + D::from(a[3]) * rep_inv)
 }
 
-#[tactic(auto, unfolding(crate::specs::PackingFraction::packing_fraction_a))]
+#[tactic(auto, unfolding(crate::specs::PackingFraction::packing_fraction_a, crate::specs::PackingFraction::coefficient_a))]
 pub fn packing_fraction_a<D: DualNum>(a: &[[f64; 4]; 4], eta: D, tau: D, rep_ij: D) -> D
     ensures { result ≡ F.packing_fraction_a D.arithmetic (table a.now) eta tau rep_ij }
 {

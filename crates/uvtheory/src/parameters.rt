@@ -1,7 +1,8 @@
 // uvtheory/parameters.rs: the parameters of a mixture, and `mie_prefactor`, `mean_field_constant` and `bh_coefficients`.
-ghost use Rattle.std.specs.Prelude.{◌≡◌, ◌<◌, ◌≤◌, [], ◌∷◌};
+ghost use Rattle.std.specs.Prelude.{◌≡◌, ℕ, ◌<◌, ◌≤◌, [], ◌∷◌};
 ghost use Rattle.uvtheory.specs.Literals as N;
 ghost use Rattle.uvtheory.specs.Parameters as F;
+ghost use Rattle.uvtheory.specs.Parameters.{combined};
 ghost use Rattle.uvtheory.specs.Rows.{doubles, row, Matrix, place as place_of};
 ghost use Rattle.uvtheory.specs.Held.{CombinedOf};
 
@@ -113,4 +114,70 @@ pub fn place(n: usize, i: usize, j: usize) -> usize
     ensures { (result ≡ place_of n i j) × (result < 28) }
 {
     i * (2 * n - i - 1) / 2 + (j - i - 1)
+}
+
+// The combined values of all pairs: on the diagonal the substances' own, and for i below j what the rule gives.
+fn by_rule<D: DualNum, F: Fn(usize, usize) -> D>(n: usize, pure: &[D; 8], rule: F) -> [D; 64]
+    requires few { n ≤ 8 }
+    requires callable { (i j : ℕ) → i < j → j < n → F.pre rule i j }
+    ensures { (f : ℕ → ℕ → D) → ((i j : ℕ) (r : D) → i < j → j < n → F.post rule i j r → r ≡ f i j) → Matrix D.arithmetic n result (combined (row D.arithmetic pure.now) f) }
+{
+    symmetric(
+        n,
+        |i, j| -> D
+            requires { (i ≤ j) × (i < 8) × (i < j → F.pre rule i j) }
+            ensures same { i ≡ j → result ≡ row D.arithmetic pure.entry.now i }
+            ensures pair { i < j → F.post rule i j result }
+        { if i == j { pure[i] } else { rule(i, j) } },
+    )
+}
+
+// UVTheoryPars::new: each pair is worked once, for i below j, and copied.
+pub fn combine<D: DualNum>(m: &Mixture) -> Combined<D>
+    requires { m.now.n ≤ 8 }
+    ensures { CombinedOf D.arithmetic m.now result }
+{
+    let n = m.n;
+    let k_ij = &m.k_ij;
+    let rep = constants::<D>(&m.rep);
+    let att = constants::<D>(&m.att);
+    let sigma = constants::<D>(&m.sigma);
+    let epsilon_k = constants::<D>(&m.epsilon_k);
+    Combined {
+        rep_ij: by_rule(
+            n,
+            &rep,
+            |i, j| -> D
+                requires { (i < 8) × (j < 8) }
+                ensures { result ≡ D.arithmetic.sqrt (D.arithmetic.mul (row D.arithmetic rep i) (row D.arithmetic rep j)) }
+            { (rep[i] * rep[j]).sqrt() },
+        ),
+        att_ij: by_rule(
+            n,
+            &att,
+            |i, j| -> D
+                requires { (i < 8) × (j < 8) }
+                ensures { result ≡ D.arithmetic.sqrt (D.arithmetic.mul (row D.arithmetic att i) (row D.arithmetic att j)) }
+            { (att[i] * att[j]).sqrt() },
+        ),
+        sigma_ij: by_rule(
+            n,
+            &sigma,
+            |i, j| -> D
+                requires { (i < 8) × (j < 8) }
+                ensures { result ≡ D.arithmetic.mul (D.arithmetic.constant N.half) (D.arithmetic.add (row D.arithmetic sigma i) (row D.arithmetic sigma j)) }
+            { D::from(0.5) * (sigma[i] + sigma[j]) },
+        ),
+        eps_k_ij: by_rule(
+            n,
+            &epsilon_k,
+            |i, j| -> D
+                requires { (i < j) × (j < n) × (n ≤ 8) }
+                ensures { result ≡ D.arithmetic.mul (D.arithmetic.sub (D.arithmetic.constant N.one) (D.arithmetic.constant (doubles k_ij.entry.now (place_of n i j)))) (D.arithmetic.sqrt (D.arithmetic.mul (row D.arithmetic epsilon_k i) (row D.arithmetic epsilon_k j))) }
+            {
+                (D::from(1.0) - D::from(k_ij[place(n, i, j)]))
+                    * (epsilon_k[i] * epsilon_k[j]).sqrt()
+            },
+        ),
+    }
 }

@@ -13,4 +13,4 @@ power_of_two-requires c = rw (to_z-of_z w64 c.args.k c.ranges.k) c.requires
 
 pub returns : goal.returns
 unfolding R.exp_of
-returns c = rw (c.power_of_two.ensures, c.horner.ensures, to_z-of_z w64 c.args.k c.ranges.k)
+returns c = rw (c.power_of_two.ensures, c.polynomial.ensures, to_z-of_z w64 c.args.k c.ranges.k)

@@ -6,7 +6,3 @@ use Rattle.elementary.proofs.logarithm.ln_of.Goals as goal
 
 pub int_to_float-result : goal.int_to_float-result
 int_to_float-result c = subst (λ (z : ℤ). T (in_float binary64 z)) (sym (to_z-of_z w64 c.args.e c.ranges.e)) c.requires
-
-pub returns : goal.returns
-unfolding R.ln_of
-returns c = rw (c.series.ensures, c.div.ensures, to_z-of_z w64 c.args.e c.ranges.e)

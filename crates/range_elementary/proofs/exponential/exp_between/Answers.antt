@@ -32,7 +32,7 @@ use Rattle.range_elementary.proofs.exponential.exp_between.Goals as goal
 pub returns-then-not-is_ok : goal.returns-then-not-is_ok
 returns-then-not-is_ok c =
     let v = c.args.v in
-    let is : c.add-place.result ≡ places v = rw (c.add-place.ensures, c.constant-2.ensures, c.mul.ensures, c.constant.ensures) in
+    let is : c.add-place.result ≡ places v = rw (c.add-place.ensures, c.from-2.ensures, c.mul.ensures, c.from.ensures) in
     λ a l h. c.failed.ensures ∙ sym (failed_step floor (places v) (λ k. R.exp_of Rules.rules v k) (ap ok (sym is) ∙ sym c.is_ok.ensures ∙ c.if-not-is_ok.true))
 
 pub returns-then-v : goal.returns-then-v
@@ -107,7 +107,7 @@ int_to_float-k c =
 pub returns-then-place-k : goal.returns-then-place-k
 returns-then-place-k c =
     let v = c.args.v in
-    let is : c.add-place.result ≡ places v = rw (c.add-place.ensures, c.constant-2.ensures, c.mul.ensures, c.constant.ensures) in
+    let is : c.add-place.result ≡ places v = rw (c.add-place.ensures, c.from-2.ensures, c.mul.ensures, c.from.ensures) in
     let o : ok (places v) ≡ true = ap ok (sym is) ∙ sym c.is_ok.ensures ∙ c.if-not-is_ok.false in
     let b = bounded v c.if-v.false c.if-not-v.false in
     let less = lower_less v c.add-place.result o is (k v) (normal_float (k v) (k_normal v b)) _ (k_back v b c.floor-k.result c.floor-k.ensures) c.if-place-k.true in
@@ -125,7 +125,7 @@ int_to_float-k-2 c =
 pub returns-then-k-place : goal.returns-then-k-place
 returns-then-k-place c =
     let v = c.args.v in
-    let is : c.add-place.result ≡ places v = rw (c.add-place.ensures, c.constant-2.ensures, c.mul.ensures, c.constant.ensures) in
+    let is : c.add-place.result ≡ places v = rw (c.add-place.ensures, c.from-2.ensures, c.mul.ensures, c.from.ensures) in
     let o : ok (places v) ≡ true = ap ok (sym is) ∙ sym c.is_ok.ensures ∙ c.if-not-is_ok.false in
     let b = bounded v c.if-v.false c.if-not-v.false in
     let least = upper_at_least v c.add-place.result o is (suc_ℤ (k v)) (next_float (k v) (k_normal v b)) _ (next_back v b c.floor-k.result c.floor-k.ensures) c.if-k-place.true in
@@ -140,7 +140,7 @@ exp_of-requires c =
 pub returns : goal.returns
 returns c =
     let v = c.args.v in
-    let is : c.add-place.result ≡ places v = rw (c.add-place.ensures, c.constant-2.ensures, c.mul.ensures, c.constant.ensures) in
+    let is : c.add-place.result ≡ places v = rw (c.add-place.ensures, c.from-2.ensures, c.mul.ensures, c.from.ensures) in
     let o : ok (places v) ≡ true = ap ok (sym is) ∙ sym c.is_ok.ensures ∙ c.if-not-is_ok.false in
     let b = bounded v c.if-v.false c.if-not-v.false in
     let back = k_back v b c.floor-k.result c.floor-k.ensures in

@@ -9,12 +9,6 @@ use Rattle.elementary.proofs.Floor.{normal_float}
 use Rattle.range.proofs.Constants.{whole_is}
 use Rattle.range_elementary.proofs.exponential.exp_of.Goals as goal
 
-pub int_to_float-k : goal.int_to_float-k
-int_to_float-k c = subst (λ (z : ℤ). T (in_float binary64 z)) (sym (to_z-of_z w64 c.args.k c.ranges.k)) (normal_float c.args.k c.requires)
-
-pub scale-requires : goal.scale-requires
-scale-requires c = rw (to_z-of_z w64 c.args.k c.ranges.k) c.requires
-
 pub returns : goal.returns
 unfolding R.exp_of
 returns c =
@@ -24,10 +18,10 @@ returns c =
       c.horner.ensures,
       c.sub-r.ensures,
       c.mul-2.ensures,
-      c.constant-2.ensures,
+      c.from-2.ensures,
       c.sub.ensures,
       c.mul.ensures,
-      c.constant.ensures,
-      c.constant-w.ensures,
+      c.from.ensures,
+      c.from-w.ensures,
       to_z-of_z w64 c.args.k c.ranges.k,
     )

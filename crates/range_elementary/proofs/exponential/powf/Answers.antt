@@ -12,18 +12,6 @@ returns-then-is_moderate c =
     let one = c.is_one.ensures in
     sym (tested_power _ _ (subst T (sym c.well_formed.0.1.1.0.1) tt) (subst T (sym c.well_formed.0.1.1.1.0.1) tt) (subst T (sym (sym one ∙ c.if-is_one.true)) tt) (subst T (sym (sym c.is_moderate.ensures ∙ c.if-is_moderate.true)) tt))
 
-pub if_above-zero-requires : goal.if_above-zero-requires
-unfolding of_bits neg
-if_above-zero-requires c = tt
-
-pub if_below-other-requires : goal.if_below-other-requires
-unfolding of_bits neg
-if_below-other-requires c = tt
-
-pub if_above-requires : goal.if_above-requires
-unfolding of_bits neg
-if_above-requires c = tt
-
 pub returns : goal.returns
 unfolding R.powf
 returns c =

@@ -8,9 +8,6 @@ pub returns-then-not-is_ok : goal.returns-then-not-is_ok
 unfolding Rules.scale
 returns-then-not-is_ok c = rw (sym c.is_ok.ensures ∙ c.if-not-is_ok.true) c.failed.ensures
 
-pub power_of_two-t-requires : goal.power_of_two-t-requires
-power_of_two-t-requires c = rw (to_z-of_z w64 c.args.k c.ranges.k) c.requires
-
 pub returns : goal.returns
 unfolding Rules.scale Rules.kept
 returns c =

@@ -17,12 +17,12 @@ returns c =
     rw (
       c.if_above.ensures,
       c.if_below-lower.ensures,
-      c.constant.ensures,
+      c.from.ensures,
       c.sub-inner.ensures,
       c.div.ensures,
       c.add.ensures,
       c.exp.ensures,
       c.mul.ensures,
-      c.constant-two.ensures,
+      c.from-two.ensures,
       one_constant,
     )

@@ -26,7 +26,7 @@ returns c =
       c.series-near.ensures,
       c.div.ensures,
       c.add-2.ensures,
-      c.constant.ensures,
+      c.from.ensures,
       c.ln-far.ensures,
       c.add.ensures,
       one_constant,

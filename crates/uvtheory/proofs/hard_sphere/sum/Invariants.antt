@@ -1,5 +1,5 @@
-use Rattle.std.proofs.Common.{◌≡◌, ◌*◌, ◌/◌, ◌%◌, ◌≤◌}
-use Rattle.uvtheory.specs.Rows.{row, matrix}
+use Rattle.std.proofs.Common.{◌≡◌, ◌≤◌}
+use Rattle.uvtheory.specs.Rows.{row}
 use Rattle.uvtheory.proofs.hard_sphere.sum.Given as goal
 
 abbrev pub invariant-loop-i : goal.invariant-loop-i

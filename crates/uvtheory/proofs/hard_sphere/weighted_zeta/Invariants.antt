@@ -1,5 +1,5 @@
-use Rattle.std.proofs.Common.{◌≡◌, ◌*◌, ◌/◌, ◌%◌, ◌≤◌}
-use Rattle.uvtheory.specs.Rows.{row, matrix}
+use Rattle.std.proofs.Common.{◌≡◌, ◌≤◌}
+use Rattle.uvtheory.specs.Rows.{row}
 use Rattle.uvtheory.specs.HardSphere as F
 use Rattle.uvtheory.proofs.hard_sphere.weighted_zeta.Given as goal
 

@@ -1,5 +1,5 @@
-use Rattle.std.proofs.Common.{◌≡◌, ◌*◌, ◌/◌, ◌%◌, ◌≤◌}
-use Rattle.uvtheory.specs.Rows.{row, matrix}
+use Rattle.std.proofs.Common.{◌≡◌, ◌≤◌}
+use Rattle.uvtheory.specs.Rows.{row}
 use Rattle.uvtheory.specs.OneFluid as F
 use Rattle.uvtheory.proofs.one_fluid.mean_cube.Given as goal
 

@@ -1,5 +1,5 @@
-use Rattle.std.proofs.Common.{◌≡◌, ◌*◌, ◌/◌, ◌%◌, ◌≤◌}
-use Rattle.uvtheory.specs.Rows.{row, matrix}
+use Rattle.std.proofs.Common.{◌≡◌, ◌≤◌}
+use Rattle.uvtheory.specs.Rows.{row}
 use Rattle.uvtheory.specs.PackingFraction as F
 use Rattle.uvtheory.proofs.packing_fraction.packing_fraction.Given as goal
 

@@ -1,0 +1,19 @@
+use Rattle.std.proofs.Common.{refl}
+use Rattle.uvtheory.proofs.one_fluid.one_fluid_properties.Goals as goal
+
+pub returns : goal.returns
+returns g c =
+    let d = g.met.D.DualNum in
+    simp (
+      d.div_is _ _ _ c.div.ensures,
+      d.div_is _ _ _ c.div-2.ensures,
+      c.virial_sum.ensures,
+      c.cube_root.ensures,
+      c.cube_root-sigma_x.ensures,
+      c.mean_cube.ensures,
+      c.mean_cube-2.ensures,
+      c.pair_mean.ensures,
+      c.pair_mean-2.ensures,
+      c.pair_mean-weighted_sigma3_ij.ensures,
+      d.powi_one,
+    ) refl

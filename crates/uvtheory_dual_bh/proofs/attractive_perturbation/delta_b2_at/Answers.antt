@@ -1,8 +1,0 @@
--- Written by tools/copies from crates/uvtheory_range_bh/proofs/attractive_perturbation/delta_b2_at/Answers.antt.
-use Rattle.uvtheory_dual_bh.proofs.attractive_perturbation.delta_b2_at.Goals as goal
-
-pub returns-then-j-i : goal.returns-then-j-i
-returns-then-j-i c = c.requires c.if-j-i.true
-
-pub returns : goal.returns
-returns c = rw (c.delta_b2.ensures, c.div.ensures)

@@ -1,3 +1,0 @@
--- Laws for the code on ranges.
-pub mod Combined
-pub mod Arrays

@@ -1,7 +1,0 @@
-use Rattle.uvtheory.specs.PackingFraction as F
-use Rattle.uvtheory_range.proofs.packing_fraction.coefficient_b.Goals as goal
-
-pub returns : goal.returns
-unfolding F.coefficient_b
-returns c =
-    rw (c.add.ensures, c.mul-3.ensures, c.constant-2.ensures, c.mul-2.ensures, c.mul.ensures, c.constant.ensures)
