@@ -11,6 +11,10 @@ module _ {V : Type 0} (start : V) (plus : V → V → V) where
   unfolding sum_by
   longer_sum n f = rw add-one
 
+pub single_factor : {V : Type 0} (one : V) (times : V → V → V) (v : V) → power_by one times v 1 ≡ v
+unfolding power_by
+single_factor one times v = refl
+
 pub longer_power : {V : Type 0} (one : V) (times : V → V → V) (v : V) (i : ℕ) → 1 ≤ i → power_by one times v (i + 1) ≡ times (power_by one times v i) v
 unfolding power_by
 longer_power one times v zero h = absurd (no h)

@@ -1,8 +1,8 @@
 // Plain doubles as a number type.
-ghost use Rattle.std.specs.Prelude.{◌≡◌, T, Float, refl};
+ghost use Rattle.std.specs.Prelude.{◌≡◌, T, Float};
 ghost use Rattle.std.specs.Float.Ieee.Scale.{finite};
 ghost use Rattle.arithmetic.specs.Doubles.{guarded};
-ghost use Rattle.arithmetic.proofs.Repeated.{empty_sum, longer_sum};
+ghost use Rattle.arithmetic.proofs.Repeated.{empty_sum, longer_sum, single_factor};
 
 use crate::dual_num::DualNum;
 use elementary::exponential::{exp, powf, tanh};
@@ -175,7 +175,7 @@ impl DualNum for Double {
 
     ghost div_is = { λ _ _ _ e. e };
 
-    ghost powi_one = { λ _. refl };
+    ghost powi_one = { single_factor _ _ };
 
     ghost sum_start = { empty_sum _ _ };
 

@@ -1,7 +1,7 @@
 // Ranges and values with slopes as number types.
-ghost use Rattle.std.specs.Prelude.{◌≡◌, T, refl};
+ghost use Rattle.std.specs.Prelude.{◌≡◌, T};
 ghost use Rattle.std.specs.Float.Ieee.Scale.{finite};
-ghost use Rattle.arithmetic.proofs.Repeated.{empty_sum, longer_sum};
+ghost use Rattle.arithmetic.proofs.Repeated.{empty_sum, longer_sum, single_factor};
 ghost use Rattle.range.specs.Rules.{ranges};
 ghost use Rattle.dual.specs.Rules.{guarded_slopes};
 
@@ -66,7 +66,7 @@ impl DualNum for Range {
 
     ghost div_is = { λ _ _ _ e. e };
 
-    ghost powi_one = { λ _. refl };
+    ghost powi_one = { single_factor _ _ };
 
     ghost sum_start = { empty_sum _ _ };
 
@@ -130,7 +130,7 @@ impl DualNum for Dual {
 
     ghost div_is = { λ _ _ _ e. e };
 
-    ghost powi_one = { λ _. refl };
+    ghost powi_one = { single_factor _ _ };
 
     ghost sum_start = { empty_sum _ _ };
 
