@@ -1,5 +1,5 @@
 // uvtheory/eos/wca/attractive_perturbation_uvb3.rs: the attractive perturbation of WCA-B3.
-ghost use Rattle.std.specs.Prelude.{◌≡◌, ◌≤◌, ◌<◌};
+ghost use Rattle.std.specs.Prelude.{◌≡◌, ◌+◌, ◌*◌, ◌≤◌, ◌<◌};
 ghost use Rattle.uvtheory.specs.Literals as N;
 ghost use Rattle.uvtheory.specs.Rows.{doubles, row, matrix, Row, Matrix, Symmetric};
 ghost use Rattle.uvtheory.specs.Inputs.{parameters, state_of};
@@ -247,6 +247,7 @@ pub fn energy<D: DualNum>(o: &OneFluid<D>, t: D, density: D, rho: D, b2bar: D, b
     density * (a1u + (-u_fraction_wca(o.rep, rho, t_x) + D::from(1.0)) * b)
 }
 
+#[tactic(auto, using(uvtheory_wca::proofs::Lengths::pair_fits))]
 fn delta_b2_ij<D: DualNum>(n: usize, c: &Combined<D>, t: D, l: &LengthTables<D>) -> [D; 64]
     requires { (n ≤ 8) × Symmetric D.arithmetic n c.now.rep_ij × Symmetric D.arithmetic n c.now.eps_k_ij × Symmetric D.arithmetic n l.now.q × Symmetric D.arithmetic n l.now.rm }
     ensures { Matrix D.arithmetic n result (λ i j. F.delta_b2_of D.arithmetic (D.arithmetic.div t (matrix D.arithmetic n c.now.eps_k_ij i j)) (matrix D.arithmetic n c.now.rep_ij i j) (matrix D.arithmetic n l.now.q i j) (matrix D.arithmetic n l.now.rm i j)) }
@@ -254,8 +255,8 @@ fn delta_b2_ij<D: DualNum>(n: usize, c: &Combined<D>, t: D, l: &LengthTables<D>)
     symmetric(
         n,
         |i: usize, j: usize| -> D
-            requires { (i < n) × (j < n) × (n ≤ 8) }
-            ensures { result ≡ F.delta_b2_of D.arithmetic (D.arithmetic.div t (matrix D.arithmetic n c.now.eps_k_ij i j)) (matrix D.arithmetic n c.now.rep_ij i j) (matrix D.arithmetic n l.now.q i j) (matrix D.arithmetic n l.now.rm i j) }
+            requires { i * n + j < 64 }
+            ensures { result ≡ F.delta_b2_of D.arithmetic (D.arithmetic.div t (matrix D.arithmetic n c.entry.now.eps_k_ij i j)) (matrix D.arithmetic n c.entry.now.rep_ij i j) (matrix D.arithmetic n l.entry.now.q i j) (matrix D.arithmetic n l.entry.now.rm i j) }
         {
             let k = i * n + j;
             delta_b2(t / c.eps_k_ij[k], c.rep_ij[k], l.q[k], l.rm[k])
@@ -280,13 +281,8 @@ fn delta_b3_ij<D: DualNum>(
     for k in 0..n * n {
         let i = k / n;
         let j = k % n;
-        b3[k] = delta_b3(
-            t / c.eps_k_ij[k],
-            l.rm[k],
-            c.rep_ij[k],
-            (d[i] / sigma[i] + d[j] / sigma[j]) * D::from(0.5),
-            l.q[k],
-        );
+        let d_ij = (d[i] / sigma[i] + d[j] / sigma[j]) * D::from(0.5);
+        b3[k] = delta_b3(t / c.eps_k_ij[k], l.rm[k], c.rep_ij[k], d_ij, l.q[k]);
     }
     b3
 }

@@ -1,5 +1,5 @@
 // uvtheory/eos/wca/attractive_perturbation.rs: the attractive perturbation by Weeks, Chandler and Andersen.
-ghost use Rattle.std.specs.Prelude.{◌≡◌, ◌≤◌, ◌<◌};
+ghost use Rattle.std.specs.Prelude.{◌≡◌, ◌+◌, ◌*◌, ◌≤◌, ◌<◌};
 ghost use Rattle.uvtheory.specs.Rows.{doubles, row, matrix, Row, Matrix, Symmetric};
 ghost use Rattle.uvtheory.specs.Inputs.{parameters, state_of};
 ghost use Rattle.uvtheory.specs.Held.{CombinedOf};
@@ -233,6 +233,7 @@ pub fn energy<D: DualNum>(o: &OneFluid<D>, t: D, density: D, rho: D, b2bar: D) -
     density * (a1u + (-u_fraction_wca(o.rep, rho) + D::from(1.0)) * (b2bar - b21u) * density)
 }
 
+#[tactic(auto, using(crate::proofs::Lengths::pair_fits))]
 fn delta_b2_ij<D: DualNum>(n: usize, c: &Combined<D>, t: D, l: &LengthTables<D>) -> [D; 64]
     requires { (n ≤ 8) × Symmetric D.arithmetic n c.now.rep_ij × Symmetric D.arithmetic n c.now.att_ij × Symmetric D.arithmetic n c.now.eps_k_ij × Symmetric D.arithmetic n l.now.q × Symmetric D.arithmetic n l.now.rm }
     ensures { Matrix D.arithmetic n result (λ i j. F.delta_b2_of D.arithmetic (D.arithmetic.div t (matrix D.arithmetic n c.now.eps_k_ij i j)) (matrix D.arithmetic n c.now.rep_ij i j) (matrix D.arithmetic n c.now.att_ij i j)
@@ -241,9 +242,9 @@ fn delta_b2_ij<D: DualNum>(n: usize, c: &Combined<D>, t: D, l: &LengthTables<D>)
     symmetric(
         n,
         |i: usize, j: usize| -> D
-            requires { (i < n) × (j < n) × (n ≤ 8) }
-            ensures { result ≡ F.delta_b2_of D.arithmetic (D.arithmetic.div t (matrix D.arithmetic n c.now.eps_k_ij i j)) (matrix D.arithmetic n c.now.rep_ij i j) (matrix D.arithmetic n c.now.att_ij i j)
-                (matrix D.arithmetic n l.now.q i j) (mie_prefactor D.arithmetic (matrix D.arithmetic n c.now.rep_ij i j) (matrix D.arithmetic n c.now.att_ij i j)) (matrix D.arithmetic n l.now.rm i j) }
+            requires { i * n + j < 64 }
+            ensures { result ≡ F.delta_b2_of D.arithmetic (D.arithmetic.div t (matrix D.arithmetic n c.entry.now.eps_k_ij i j)) (matrix D.arithmetic n c.entry.now.rep_ij i j) (matrix D.arithmetic n c.entry.now.att_ij i j)
+                (matrix D.arithmetic n l.entry.now.q i j) (mie_prefactor D.arithmetic (matrix D.arithmetic n c.entry.now.rep_ij i j) (matrix D.arithmetic n c.entry.now.att_ij i j)) (matrix D.arithmetic n l.entry.now.rm i j) }
         {
             let k = i * n + j;
             let rep = c.rep_ij[k];

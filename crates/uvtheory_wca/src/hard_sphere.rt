@@ -1,5 +1,5 @@
 // uvtheory/eos/wca/hard_sphere.rs: diameters and lengths by Weeks, Chandler and Andersen.
-ghost use Rattle.std.specs.Prelude.{◌≡◌, ◌≤◌, ◌<◌};
+ghost use Rattle.std.specs.Prelude.{◌≡◌, ◌+◌, ◌*◌, ◌≤◌, ◌<◌};
 ghost use Rattle.uvtheory.specs.Rows.{doubles, row, matrix, Matrix, Symmetric};
 ghost use Rattle.uvtheory.specs.Wca.HardSphere as F;
 ghost use Rattle.uvtheory_wca.specs.Lengths.{ComponentLengthsOf};
@@ -119,14 +119,14 @@ pub fn component_lengths<D: DualNum>(m: &Mixture, temperature: D) -> ComponentLe
         m.n,
         |i: usize| -> D
             requires { i < 8 }
-            ensures { result ≡ F.rm_of D.arithmetic (D.arithmetic.constant (doubles m.now.rep i)) (D.arithmetic.constant (doubles m.now.att i)) }
+            ensures { result ≡ F.rm_of D.arithmetic (D.arithmetic.constant (doubles m.entry.now.rep i)) (D.arithmetic.constant (doubles m.entry.now.att i)) }
         { rm_of(D::from(m.rep[i]), D::from(m.att[i])) },
     );
     let d = each(
         m.n,
         |i: usize| -> D
             requires { i < 8 }
-            ensures { result ≡ F.diameter_of D.arithmetic (D.arithmetic.div temperature (D.arithmetic.constant (doubles m.now.epsilon_k i))) (D.arithmetic.constant (doubles m.now.rep i)) (row D.arithmetic rm i) (D.arithmetic.constant (doubles m.now.sigma i)) }
+            ensures { result ≡ F.diameter_of D.arithmetic (D.arithmetic.div temperature (D.arithmetic.constant (doubles m.entry.now.epsilon_k i))) (D.arithmetic.constant (doubles m.entry.now.rep i)) (row D.arithmetic rm i) (D.arithmetic.constant (doubles m.entry.now.sigma i)) }
         {
             diameter_of(
                 temperature / D::from(m.epsilon_k[i]),
@@ -140,7 +140,7 @@ pub fn component_lengths<D: DualNum>(m: &Mixture, temperature: D) -> ComponentLe
         m.n,
         |i: usize| -> D
             requires { i < 8 }
-            ensures { result ≡ D.arithmetic.add (D.arithmetic.neg (row D.arithmetic d i)) (D.arithmetic.mul (row D.arithmetic rm i) (D.arithmetic.constant (doubles m.now.sigma i))) }
+            ensures { result ≡ D.arithmetic.add (D.arithmetic.neg (row D.arithmetic d i)) (D.arithmetic.mul (row D.arithmetic rm i) (D.arithmetic.constant (doubles m.entry.now.sigma i))) }
         { -d[i] + rm[i] * D::from(m.sigma[i]) },
     );
     ComponentLengths { rm, d, length }
@@ -161,6 +161,7 @@ pub struct LengthTables<D> {
     pub q: [D; 64],
 }
 
+#[tactic(auto, using(crate::proofs::Lengths::pair_fits))]
 pub fn pair_lengths<D: DualNum>(n: usize, c: &Combined<D>, t: D) -> LengthTables<D>
     requires { (n ≤ 8) × Symmetric D.arithmetic n c.now.rep_ij × Symmetric D.arithmetic n c.now.att_ij × Symmetric D.arithmetic n c.now.eps_k_ij }
     ensures { Matrix D.arithmetic n result.rm (λ i j. F.rm_of D.arithmetic (matrix D.arithmetic n c.now.rep_ij i j) (matrix D.arithmetic n c.now.att_ij i j))
@@ -169,8 +170,8 @@ pub fn pair_lengths<D: DualNum>(n: usize, c: &Combined<D>, t: D) -> LengthTables
     let rm = symmetric(
         n,
         |i: usize, j: usize| -> D
-            requires { (i < n) × (j < n) × (n ≤ 8) }
-            ensures { result ≡ F.rm_of D.arithmetic (matrix D.arithmetic n c.now.rep_ij i j) (matrix D.arithmetic n c.now.att_ij i j) }
+            requires { i * n + j < 64 }
+            ensures { result ≡ F.rm_of D.arithmetic (matrix D.arithmetic n c.entry.now.rep_ij i j) (matrix D.arithmetic n c.entry.now.att_ij i j) }
         {
             let k = i * n + j;
             rm_of(c.rep_ij[k], c.att_ij[k])
@@ -179,8 +180,8 @@ pub fn pair_lengths<D: DualNum>(n: usize, c: &Combined<D>, t: D) -> LengthTables
     let q = symmetric(
         n,
         |i: usize, j: usize| -> D
-            requires { (i < n) × (j < n) × (n ≤ 8) }
-            ensures { result ≡ F.q_of D.arithmetic (D.arithmetic.div t (matrix D.arithmetic n c.now.eps_k_ij i j)) (matrix D.arithmetic n c.now.rep_ij i j) (matrix D.arithmetic n c.now.att_ij i j) (matrix D.arithmetic n rm i j) }
+            requires { i * n + j < 64 }
+            ensures { result ≡ F.q_of D.arithmetic (D.arithmetic.div t (matrix D.arithmetic n c.entry.now.eps_k_ij i j)) (matrix D.arithmetic n c.entry.now.rep_ij i j) (matrix D.arithmetic n c.entry.now.att_ij i j) (matrix D.arithmetic n rm i j) }
         {
             let k = i * n + j;
             q_of(t / c.eps_k_ij[k], c.rep_ij[k], c.att_ij[k], rm[k])

@@ -101,9 +101,12 @@ pub fn pair_sum<D: DualNum>(
 {
     let mut sum = D::from(0.0);
     for k in 0..n * n {
+        let q_ij = q[k];
+        let sigma_ij = c.sigma_ij[k];
+        let rep_ij = c.rep_ij[k];
         let i = component_of(k / n, x, r);
         let j = component_of(k % n, x, r);
-        sum = sum + term_of(ta, tb, &i, &j, q[k], c.sigma_ij[k], c.rep_ij[k], eta);
+        sum = sum + term_of(ta, tb, &i, &j, q_ij, sigma_ij, rep_ij, eta);
     }
     sum
 }

@@ -1,0 +1,34 @@
+use Rattle.std.proofs.Common.{◌∙◌}
+use Rattle.uvtheory.specs.Rows.{missing}
+use Rattle.uvtheory.specs.Inputs.{state_of}
+use Rattle.uvtheory.specs.Wca.HardSphere.{diameter_wca}
+use Rattle.uvtheory.proofs.Loops.{adds}
+use Rattle.uvtheory.proofs.Sums.{spherical_of}
+use Rattle.uvtheory.proofs.Combined.{rep_symmetric, att_symmetric, epsilon_symmetric}
+use Rattle.uvtheory_wca.proofs.Lengths.{lengths_are}
+use Rattle.uvtheory_wca.proofs.residual_helmholtz_energy_contributions.Goals as goal
+
+pub returns : goal.returns
+returns g c =
+    let A = g.D.DualNum.arithmetic in
+    let number = g.met.D.DualNum in
+    let left = adds A number.sum_start number.sum_step in
+    let sphere = c.helmholtz_energy_density.ensures ∙ spherical_of A left (missing A) _ (number.from_is _ _ c.from-unit.ensures) c.args.m.now.n c.requires c.component_lengths-r.result.d _ c.component_lengths-r.ensures.d_are (state_of A c.args.s.now) in
+    rw (sphere, c.helmholtz_energy_density-2.ensures, c.helmholtz_energy_density-3.ensures)
+
+pub helmholtz_energy_density-requires-2 : goal.helmholtz_energy_density-requires-2
+helmholtz_energy_density-requires-2 g c =
+    let A = g.D.DualNum.arithmetic in
+    let a = c.combine-c in
+    let l = c.pair_lengths-l in
+    record { n_bound = (c.requires, a.ensures, c.component_lengths-r.ensures, lengths_are A c.args.m.now a.result c.args.s.now.temperature l.result a.ensures l.ensures.0 l.ensures.1); density_value = c.sum-density.ensures }
+
+pub helmholtz_energy_density-requires-3 : goal.helmholtz_energy_density-requires-3
+helmholtz_energy_density-requires-3 g c =
+    let A = g.D.DualNum.arithmetic in
+    let a = c.combine-c in
+    let l = c.pair_lengths-l in
+    record { n_bound = (c.requires, a.ensures, lengths_are A c.args.m.now a.result c.args.s.now.temperature l.result a.ensures l.ensures.0 l.ensures.1, c.component_lengths-r.ensures.d_are); density_value = c.sum-density.ensures }
+
+pub pair_lengths-l-requires : goal.pair_lengths-l-requires
+pair_lengths-l-requires g c = let A = g.D.DualNum.arithmetic in let h = c.combine-c.ensures in (c.requires, rep_symmetric A h, att_symmetric A h, epsilon_symmetric A h)
