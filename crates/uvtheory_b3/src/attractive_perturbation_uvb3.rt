@@ -95,7 +95,7 @@ fn coefficient_rsap<D: DualNum>(c: &[f64; 4], r1: D, r2: D, r3: D) -> D
 }
 
 // Each power of beta is the one before it times beta.
-#[tactic(auto, unfolding(uvtheory::specs::Wca::AttractivePerturbationUvb3::sum_beta))]
+#[tactic(auto, unfolding(uvtheory::specs::Wca::AttractivePerturbationUvb3::sum_beta, num_dual::specs::Powers::PowersFromLeft))]
 fn sum_beta<D: DualNum>(beta: D) -> D
     ensures { result ≡ F.sum_beta D.arithmetic 14 beta }
 {
@@ -109,7 +109,7 @@ fn sum_beta<D: DualNum>(beta: D) -> D
 }
 
 // By the place rm of the minimum of rep and att.
-#[tactic(auto, unfolding(uvtheory::specs::Wca::AttractivePerturbationUvb3::delta_b2_of))]
+#[tactic(auto, unfolding(uvtheory::specs::Wca::AttractivePerturbationUvb3::delta_b2_of, uvtheory::specs::Wca::AttractivePerturbationUvb3::coefficient_rsap_of, uvtheory::specs::Wca::AttractivePerturbationUvb3::sum_beta))]
 pub fn delta_b2<D: DualNum>(reduced_temperature: D, rep: D, q: D, rm: D) -> D
     ensures { result ≡ F.delta_b2_of D.arithmetic reduced_temperature rep q rm }
 {
