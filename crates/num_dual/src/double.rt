@@ -1,6 +1,7 @@
 // Plain doubles as a number type.
 ghost use Rattle.std.specs.Prelude.{◌≡◌, T, Float};
 ghost use Rattle.std.specs.Float.Ieee.Scale.{finite};
+ghost use Rattle.std.proofs.Common.{lit≤};
 ghost use Rattle.arithmetic.specs.Doubles.{guarded};
 ghost use Rattle.arithmetic.proofs.Repeated.{empty_sum, longer_sum, single_factor};
 
@@ -152,6 +153,10 @@ impl DualNum for Double {
             value: where_finite(self.value, x.value),
         }
     }
+
+    ghost small = { lit≤ tt };
+
+    ghost aligned = { lit≤ tt };
 
     ghost from_is = { λ _ _ e. e };
 

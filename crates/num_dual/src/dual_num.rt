@@ -1,6 +1,8 @@
 // The trait of the number types. A type says by its ghost arithmetic what its operators and methods give; the formulas are written over that record.
-ghost use Rattle.std.specs.Prelude.{◌≡◌, ◌+◌, ℕ, T, Float};
+ghost use Rattle.std.specs.Prelude.{◌≡◌, ◌+◌, ◌^◌, ◌≤◌, ℕ, T, Float};
 ghost use Rattle.std.specs.Float.Ieee.Scale.{finite};
+ghost use Rattle.std.specs.Align.{type_align};
+ghost use Rattle.std.specs.Mem.{type_size};
 ghost use Rattle.arithmetic.specs.Arithmetic.{Arithmetic};
 ghost use Rattle.arithmetic.specs.Constants.{zero_d};
 
@@ -42,6 +44,11 @@ pub trait DualNum:
     fn if_below(self, t: f64, a: Self, b: Self) -> Self
         requires { T (finite t) }
         ensures { result ≡ arithmetic.if_below self t a b };
+
+    // A value takes few bytes, so that the arrays and matrices of the formulas fit in memory.
+    ghost small: { type_size Self.row ≤ 2 ^ 32 };
+
+    ghost aligned: { type_align Self.row ≤ 2 ^ 32 };
 
     // The operators may be used on all values, and give what the arithmetic says.
     ghost from_is: { (x : Float) (r : Self) → Self.from_gives x r → r ≡ arithmetic.constant x };

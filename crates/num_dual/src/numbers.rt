@@ -1,6 +1,7 @@
 // Ranges and values with slopes as number types.
 ghost use Rattle.std.specs.Prelude.{◌≡◌, T};
 ghost use Rattle.std.specs.Float.Ieee.Scale.{finite};
+ghost use Rattle.std.proofs.Common.{lit≤};
 ghost use Rattle.arithmetic.proofs.Repeated.{empty_sum, longer_sum, single_factor};
 ghost use Rattle.range.specs.Rules.{ranges};
 ghost use Rattle.dual.specs.Rules.{guarded_slopes};
@@ -43,6 +44,10 @@ impl DualNum for Range {
     fn if_below(self, t: f64, a: Range, b: Range) -> Range {
         self.if_below(t, a, b)
     }
+
+    ghost small = { lit≤ tt };
+
+    ghost aligned = { lit≤ tt };
 
     ghost from_is = { λ _ _ e. e };
 
@@ -107,6 +112,10 @@ impl DualNum for Dual {
     fn if_below(self, t: f64, a: Dual, b: Dual) -> Dual {
         self.if_below(t, a, b)
     }
+
+    ghost small = { lit≤ tt };
+
+    ghost aligned = { lit≤ tt };
 
     ghost from_is = { λ _ _ e. e };
 

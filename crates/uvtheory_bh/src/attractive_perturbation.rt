@@ -1,16 +1,14 @@
 // uvtheory/eos/bh/attractive_perturbation.rs: the attractive perturbation by Barker-Henderson.
 ghost use Rattle.std.specs.Prelude.{◌≡◌, ◌≤◌, ◌<◌};
-ghost use Rattle.arithmetic.specs.Doubles.{guarded};
-ghost use Rattle.uvtheory.specs.Rows.{row, matrix, fluid, Row, Matrix};
-ghost use Rattle.uvtheory.specs.Inputs.{parameters, state};
-ghost use Rattle.uvtheory.specs.Held.{CombinedOf, Symmetric};
+ghost use Rattle.uvtheory.specs.Rows.{doubles, row, matrix, Row, Matrix};
+ghost use Rattle.uvtheory.specs.Inputs.{parameters, state_of};
+ghost use Rattle.uvtheory.specs.Held.{CombinedOf};
 ghost use Rattle.uvtheory.specs.Bh.HardSphere.{diameter_bh};
 ghost use Rattle.uvtheory.specs.Bh.AttractivePerturbation as F;
 
-use elementary::exponential::{exp, powf, tanh};
-use elementary::logarithm::ln;
-use operations::basic::div;
-use operations::root::sqrt;
+use num_dual::dual_num::DualNum;
+use uvtheory::arrays::{constants, symmetric};
+use uvtheory::beta_eff::coefficient_2;
 use uvtheory::consts::{FRAC_PI_3, PI};
 use uvtheory::one_fluid::{OneFluid, mean_cube, one_fluid_properties, virial_sum};
 use uvtheory::parameters::{Combined, Mixture, State, mean_field_of, mie_prefactor};
@@ -45,183 +43,194 @@ pub const C2: [[f64; 2]; 3] = [
     [5.25749466058948e-05, 5.26748277148572e-04],
 ];
 
-fn delta_b12u(t_x: f64, mean_field_constant_x: f64, weighted_sigma3_ij: f64) -> f64
-    ensures { result ≡ F.delta_b12u guarded t_x mean_field_constant_x weighted_sigma3_ij }
+#[tactic(auto, unfolding(uvtheory::specs::Bh::AttractivePerturbation::delta_b12u))]
+fn delta_b12u<D: DualNum>(t_x: D, mean_field_constant_x: D, weighted_sigma3_ij: D) -> D
+    ensures { result ≡ F.delta_b12u D.arithmetic t_x mean_field_constant_x weighted_sigma3_ij }
 {
-    div(-mean_field_constant_x, t_x) * 2.0 * PI * weighted_sigma3_ij
+    -mean_field_constant_x / t_x * D::from(2.0) * D::from(PI) * weighted_sigma3_ij
 }
 
-fn beta_eff(beta: f64, rep: f64, c0: f64) -> f64
-    ensures { result ≡ F.beta_eff guarded beta rep c0 }
+#[tactic(auto, unfolding(uvtheory::specs::Bh::AttractivePerturbation::beta_eff))]
+fn beta_eff<D: DualNum>(beta: D, rep: D, c0: D) -> D
+    ensures { result ≡ F.beta_eff D.arithmetic beta rep c0 }
 {
-    let c = C2;
-    let c1 = c[0][0] + div(c[0][1], rep);
-    let c2 = c[1][0] + div(c[1][1], rep);
-    let c3 = c[2][0] + div(c[2][1], rep);
-    beta * (-div(1.0, beta * (beta * c2 + beta * beta * beta * c3 + c1) + 1.0) * c0 + 1.0)
+    let one = D::from(1.0);
+    let c1 = coefficient_2(&C2[0], rep);
+    let c2 = coefficient_2(&C2[1], rep);
+    let c3 = coefficient_2(&C2[2], rep);
+    beta * (-(one / (beta * (beta * c2 + beta.powi(3) * c3 + c1) + one)) * c0 + one)
 }
 
 // By the mean-field constants at 1 and at the cutoff, a_rs and alpha.
-fn y_eff(beta: f64, rep: f64, a_rs: f64, alpha: f64) -> f64
-    ensures { result ≡ F.y_eff_of guarded beta rep a_rs alpha }
+#[tactic(auto, unfolding(uvtheory::specs::Bh::AttractivePerturbation::y_eff_of))]
+fn y_eff<D: DualNum>(beta: D, rep: D, a_rs: D, alpha: D) -> D
+    ensures { result ≡ F.y_eff_of D.arithmetic beta rep a_rs alpha }
 {
-    let c0 = 1.0 - div(3.0 * (a_rs - alpha), 5.0 * 5.0 * 5.0 - 1.0 * 1.0 * 1.0);
-    exp(beta_eff(beta, rep, c0)) - 1.0
+    let rc = D::from(5.0);
+    let rs = D::from(1.0);
+    let c0 = rs - D::from(3.0) * (a_rs - alpha) / (rc.powi(3) - rs.powi(3));
+    beta_eff(beta, rep, c0).exp() - D::from(1.0)
 }
 
-pub fn delta_b2(reduced_temperature: f64, rep: f64, att: f64) -> f64
-    ensures { result ≡ F.delta_b2 guarded reduced_temperature rep att }
+// The prefactor is worked once for both mean-field constants.
+#[tactic(auto, unfolding(uvtheory::specs::Bh::AttractivePerturbation::delta_b2))]
+pub fn delta_b2<D: DualNum>(reduced_temperature: D, rep: D, att: D) -> D
+    ensures { result ≡ F.delta_b2 D.arithmetic reduced_temperature rep att }
 {
+    let one = D::from(1.0);
+    let rc = D::from(5.0);
     let c = mie_prefactor(rep, att);
-    let alpha = mean_field_of(c, rep, att, 5.0);
-    let beta = div(1.0, reduced_temperature);
-    let yeff = y_eff(beta, rep, mean_field_of(c, rep, att, 1.0), alpha);
-    -(div(yeff * (5.0 * 5.0 * 5.0 - 1.0), 3.0) + beta * alpha) * 2.0 * PI
+    let alpha = mean_field_of(c, rep, att, rc);
+    let beta = one / reduced_temperature;
+    let yeff = y_eff(beta, rep, mean_field_of(c, rep, att, one), alpha);
+    -(yeff * (rc.powi(3) - one) / D::from(3.0) + beta * alpha) * D::from(2.0) * D::from(PI)
 }
 
-fn c11(rep: f64, d: f64, d_rep: f64) -> f64
-    ensures { result ≡ F.c11 guarded rep d d_rep }
+// The first of coefficients_bh; d to the 6 - rep is worked once for two of its parts.
+#[tactic(auto, unfolding(
+    uvtheory::specs::Bh::AttractivePerturbation::coefficient_1,
+    uvtheory::specs::Bh::AttractivePerturbation::c11,
+    uvtheory::specs::Bh::AttractivePerturbation::c12,
+    uvtheory::specs::Bh::AttractivePerturbation::c13
+))]
+fn coefficient_1<D: DualNum>(rep: D, att: D, d: D) -> D
+    ensures { result ≡ F.coefficient_1 D.arithmetic rep att d }
 {
-    let s = -rep + 3.0;
-    div(d_rep * (powf(1.0 * 2.0, s) - powf(d, rep - 3.0)), s) + div(-(d * d * d) * 8.0 + 1.0, 24.0)
+    let one = D::from(1.0);
+    let two = D::from(2.0);
+    let three = D::from(3.0);
+    let four = D::from(4.0);
+    let six = D::from(6.0);
+    let s3 = -rep + three;
+    let s4 = -rep + four;
+    let s6 = -rep + six;
+    let d_rep = d.powf(s6);
+    let d2 = d * two;
+    let c11 = d_rep * ((one * two).powf(s3) - d.powf(rep - three)) / s3
+        + (-d.powi(3) * D::from(8.0) + one) / D::from(24.0);
+    let c12 = (d_rep * ((one * two).powf(s4) - d.powf(rep - four)) / s4
+        + (-d.powi(2) * four + one) / D::from(8.0))
+        * D::from(-0.75);
+    let c13 = ((d2.powf(s6) - one) / s6 - d2.ln() * d.powf(-att + six)) / D::from(16.0);
+    (c11 + c12 + c13) * D::from(FRAC_PI_3) * four
 }
 
-fn c12(rep: f64, d: f64, d_rep: f64) -> f64
-    ensures { result ≡ F.c12 guarded rep d d_rep }
+// The second and the third, by their row of C_BH.
+#[tactic(auto, unfolding(uvtheory::specs::Bh::AttractivePerturbation::coefficient))]
+fn coefficient<D: DualNum>(c: &[f64; 4], rep_inv: D, d: D) -> D
+    ensures { result ≡ F.coefficient D.arithmetic (doubles c.now) rep_inv d }
 {
-    let s = -rep + 4.0;
-    (div(d_rep * (powf(1.0 * 2.0, s) - powf(d, rep - 4.0)), s) + div(-(d * d) * 4.0 + 1.0, 8.0))
-        * -0.75
-}
-
-fn c13(rep: f64, att: f64, d: f64) -> f64
-    ensures { result ≡ F.c13 guarded rep att d }
-{
-    let s = -rep + 6.0;
-    let d2 = d * 2.0;
-    div(
-        div(powf(d2, s) - 1.0, s) - ln(d2) * powf(d, -att + 6.0),
-        16.0,
-    )
-}
-
-fn coefficient_1(rep: f64, att: f64, d: f64) -> f64
-    ensures { result ≡ F.coefficient_1 guarded rep att d }
-{
-    let d_rep = powf(d, -rep + 6.0);
-    (c11(rep, d, d_rep) + c12(rep, d, d_rep) + c13(rep, att, d)) * FRAC_PI_3 * 4.0
-}
-
-// By its row of C_BH.
-fn coefficient(c: [f64; 4], rep_inv: f64, d: f64) -> f64
-    ensures { result ≡ F.coefficient guarded (row c) rep_inv d }
-{
-    rep_inv * c[1] + c[0] - (rep_inv * c[3] + c[2]) * (-d + 1.0)
+    rep_inv * D::from(c[1]) + D::from(c[0])
+        - (rep_inv * D::from(c[3]) + D::from(c[2])) * (-d + D::from(1.0))
 }
 
 // By the prefactor c.
-fn correlation_integral_bh(
-    rho_x: f64,
-    mean_field_constant_x: f64,
-    c: f64,
-    rep_x: f64,
-    att_x: f64,
-    d_x: f64,
-) -> f64
-    ensures { result ≡ F.correlation_integral_of guarded rho_x mean_field_constant_x c rep_x att_x d_x }
+#[tactic(auto, unfolding(uvtheory::specs::Bh::AttractivePerturbation::correlation_integral_of, uvtheory::specs::Bh::AttractivePerturbation::coefficient))]
+fn correlation_integral_bh<D: DualNum>(
+    rho_x: D,
+    mean_field_constant_x: D,
+    c: D,
+    rep_x: D,
+    att_x: D,
+    d_x: D,
+) -> D
+    ensures { result ≡ F.correlation_integral_of D.arithmetic rho_x mean_field_constant_x c rep_x att_x d_x }
 {
-    let rep_inv = div(1.0, rep_x);
-    let over = coefficient_1(rep_x, att_x, d_x) * rho_x
-        + coefficient(C_BH[0], rep_inv, d_x) * (rho_x * rho_x);
-    let under = coefficient(C_BH[1], rep_inv, d_x) * rho_x + 1.0;
-    -mean_field_constant_x + div(c * over, under * under)
+    let one = D::from(1.0);
+    let rep_inv = one / rep_x;
+    let c1 = coefficient_1(rep_x, att_x, d_x);
+    let c2 = coefficient(&C_BH[0], rep_inv, d_x);
+    let c3 = coefficient(&C_BH[1], rep_inv, d_x);
+    -mean_field_constant_x + c * (c1 * rho_x + c2 * rho_x.powi(2)) / (c3 * rho_x + one).powi(2)
 }
 
-fn activation(c: f64, one_fluid_beta: f64) -> f64
-    ensures { result ≡ F.activation guarded c one_fluid_beta }
+#[tactic(auto, unfolding(uvtheory::specs::Bh::AttractivePerturbation::activation))]
+fn activation<D: DualNum>(c: D, one_fluid_beta: D) -> D
+    ensures { result ≡ F.activation D.arithmetic c one_fluid_beta }
 {
-    div(
-        one_fluid_beta * sqrt(c),
-        sqrt(one_fluid_beta * one_fluid_beta * c + 1.0),
-    )
+    one_fluid_beta * c.sqrt() / (one_fluid_beta.powi(2) * c + D::from(1.0)).sqrt()
 }
 
-fn u_fraction_bh(rep_x: f64, reduced_density: f64, one_fluid_beta: f64) -> f64
-    ensures { result ≡ F.u_fraction_bh guarded rep_x reduced_density one_fluid_beta }
+// A coefficient of u_fraction_bh, by its row of CU_BH.
+fn coefficient_u<D: DualNum>(c: &[f64; 2], inv_rep: D) -> D
+    ensures { result ≡ F.coefficient_u D.arithmetic (doubles c.now) inv_rep }
 {
-    let c = CU_BH;
-    let inv_rep = div(1.0, rep_x);
-    let c0 = inv_rep * c[0][1] + c[0][0];
-    let c1 = inv_rep * c[1][1] + c[1][0];
-    let c2 = inv_rep * c[2][1] + c[2][0];
-    let c3 = inv_rep * c[3][1] + c[3][0];
-    (activation(c1, one_fluid_beta) * (-c0 + 1.0) + c0)
-        * tanh(powf(reduced_density, 1.2187) * c2 + powf(reduced_density, 4.2773) * c3)
+    inv_rep * D::from(c[1]) + D::from(c[0])
 }
 
-pub fn energy(o: OneFluid, t: f64, density: f64, rho: f64, b2bar: f64) -> f64
-    ensures { result ≡ F.energy guarded (fluid o) t density rho b2bar }
+#[tactic(auto, unfolding(uvtheory::specs::Bh::AttractivePerturbation::u_fraction_bh))]
+fn u_fraction_bh<D: DualNum>(rep_x: D, reduced_density: D, one_fluid_beta: D) -> D
+    ensures { result ≡ F.u_fraction_bh D.arithmetic rep_x reduced_density one_fluid_beta }
 {
-    let t_x = div(t, o.epsilon_k);
-    let rho_x = density * (o.sigma * o.sigma * o.sigma);
+    let one = D::from(1.0);
+    let inv_rep = one / rep_x;
+    let c0 = coefficient_u(&CU_BH[0], inv_rep);
+    let c1 = coefficient_u(&CU_BH[1], inv_rep);
+    let c2 = coefficient_u(&CU_BH[2], inv_rep);
+    let c3 = coefficient_u(&CU_BH[3], inv_rep);
+    (activation(c1, one_fluid_beta) * (-c0 + one) + c0)
+        * (reduced_density.powf(D::from(1.2187)) * c2 + reduced_density.powf(D::from(4.2773)) * c3)
+            .tanh()
+}
+
+// Of the properties of the one fluid; its prefactor is worked once.
+#[tactic(auto, unfolding(uvtheory::specs::Bh::AttractivePerturbation::energy))]
+pub fn energy<D: DualNum>(o: &OneFluid<D>, t: D, density: D, rho: D, b2bar: D) -> D
+    ensures { result ≡ F.energy D.arithmetic o.now t density rho b2bar }
+{
+    let one = D::from(1.0);
+    let t_x = t / o.epsilon_k;
+    let rho_x = density * o.sigma.powi(3);
     let c = mie_prefactor(o.rep, o.att);
-    let mean_field_constant_x = mean_field_of(c, o.rep, o.att, 1.0);
+    let mean_field_constant_x = mean_field_of(c, o.rep, o.att, one);
     let i_bh = correlation_integral_bh(rho_x, mean_field_constant_x, c, o.rep, o.att, o.d);
-    let delta_a1u = div(density, t_x) * i_bh * 2.0 * PI * o.weighted_sigma3_ij;
-    let u_fraction = u_fraction_bh(o.rep, rho, div(1.0, t_x));
+    let delta_a1u = density / t_x * i_bh * D::from(2.0) * D::from(PI) * o.weighted_sigma3_ij;
+    let u_fraction = u_fraction_bh(o.rep, rho, one / t_x);
     let b21u = delta_b12u(t_x, mean_field_constant_x, o.weighted_sigma3_ij);
-    density * (delta_a1u + (-u_fraction + 1.0) * (b2bar - b21u) * density)
+    density * (delta_a1u + (-u_fraction + one) * (b2bar - b21u) * density)
 }
 
-// Of the pair (i, j), or what was worked for (j, i).
-fn delta_b2_at(i: usize, j: usize, t: f64, eps_k: f64, rep: f64, att: f64, worked: f64) -> f64
-    requires { j < i → worked ≡ F.delta_b2 guarded (guarded.div t eps_k) rep att }
-    ensures { result ≡ F.delta_b2 guarded (guarded.div t eps_k) rep att }
+// Of the pair (i, j).
+fn delta_b2_at<D: DualNum>(n: usize, c: &Combined<D>, t: D, i: usize, j: usize) -> D
+    requires { (n ≤ 8) × (i < n) × (j < n) }
+    ensures { result ≡ F.delta_b2 D.arithmetic (D.arithmetic.div t (matrix D.arithmetic n c.now.eps_k_ij i j)) (matrix D.arithmetic n c.now.rep_ij i j) (matrix D.arithmetic n c.now.att_ij i j) }
 {
-    if j < i {
-        return worked;
-    }
-    delta_b2(div(t, eps_k), rep, att)
+    let k = i * n + j;
+    delta_b2(t / c.eps_k_ij[k], c.rep_ij[k], c.att_ij[k])
 }
 
-// Of all pairs: each is worked once, for i up to j, and copied.
-fn delta_b2_ij(n: usize, c: Combined, t: f64) -> [f64; 64]
-    requires { (n ≤ 8) × Symmetric n c.rep_ij × Symmetric n c.att_ij × Symmetric n c.eps_k_ij }
-    ensures { Matrix n result (λ i j. F.delta_b2 guarded (guarded.div t (matrix n c.eps_k_ij i j)) (matrix n c.rep_ij i j) (matrix n c.att_ij i j)) }
+// Of all pairs.
+fn delta_b2_ij<D: DualNum>(m: &Mixture, c: &Combined<D>, t: D) -> [D; 64]
+    requires { (m.now.n ≤ 8) × CombinedOf D.arithmetic m.now c.now }
+    ensures { Matrix D.arithmetic m.now.n result (F.delta_b2_ij D.arithmetic (parameters D.arithmetic m.now) t) }
 {
-    let rep_ij = c.rep_ij;
-    let att_ij = c.att_ij;
-    let eps_k_ij = c.eps_k_ij;
-    let mut b2 = [0.0; 64];
-    let mut k = 0;
-    while k < n * n {
-        let i = k / n;
-        let j = k % n;
-        b2[k] = delta_b2_at(i, j, t, eps_k_ij[k], rep_ij[k], att_ij[k], b2[j * n + i]);
-        k += 1;
-    }
-    b2
+    let n = m.n;
+    symmetric(n, |i: usize, j: usize| -> D
+        requires { (n ≤ 8) × (i < n) × (j < n) }
+        ensures { result ≡ F.delta_b2 D.arithmetic (D.arithmetic.div t (matrix D.arithmetic n c.entry.now.eps_k_ij i j)) (matrix D.arithmetic n c.entry.now.rep_ij i j) (matrix D.arithmetic n c.entry.now.att_ij i j) }
+    {
+        delta_b2_at(n, c, t, i, j)
+    })
 }
 
 // By the combined values c, the diameters d and the density.
-pub fn helmholtz_energy_density(
-    m: Mixture,
-    s: State,
-    c: Combined,
-    d: &[f64; 8],
-    density: f64,
-) -> f64
-    requires n_bound { (m.n ≤ 8) × CombinedOf m c × Row m.n d.now (diameter_bh guarded (parameters guarded m) s.temperature) }
-    requires density_value { density ≡ guarded.sum m.n (row s.partial_density) }
-    ensures { result ≡ F.helmholtz_energy_density guarded (parameters guarded m) (state guarded s) }
+pub fn helmholtz_energy_density<D: DualNum>(
+    m: &Mixture,
+    s: &State<D>,
+    c: &Combined<D>,
+    d: &[D; 8],
+    density: D,
+) -> D
+    requires n_bound { (m.now.n ≤ 8) × CombinedOf D.arithmetic m.now c.now × Row D.arithmetic m.now.n d.now (diameter_bh D.arithmetic (parameters D.arithmetic m.now) s.now.temperature) }
+    requires density_value { density ≡ D.arithmetic.sum m.now.n (row D.arithmetic s.now.partial_density) }
+    ensures { result ≡ F.helmholtz_energy_density D.arithmetic (parameters D.arithmetic m.now) (state_of D.arithmetic s.now) }
 {
     let n = m.n;
     let t = s.temperature;
-    let x = s.molefracs;
-    let sigma = m.sigma;
-    let sigma_ij = c.sigma_ij;
-    let o = one_fluid_properties(n, c, &sigma, &x, d);
-    let b2 = delta_b2_ij(n, c, t);
-    let b2bar = virial_sum(n, &x, &sigma_ij, 3, &b2);
-    energy(o, t, density, density * mean_cube(n, &x, &sigma), b2bar)
+    let x = &s.molefracs;
+    let sigma = constants(&m.sigma);
+    let o = one_fluid_properties(n, c, &sigma, x, d);
+    let b2 = delta_b2_ij(m, c, t);
+    let b2bar = virial_sum(n, x, &c.sigma_ij, 3, &b2);
+    energy(&o, t, density, density * mean_cube(n, x, &sigma), b2bar)
 }

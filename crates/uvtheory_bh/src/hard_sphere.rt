@@ -1,13 +1,13 @@
 // uvtheory/eos/bh/hard_sphere.rs: diameters by Barker-Henderson, and the tau of its packing fractions.
-ghost use Rattle.std.specs.Prelude.{◌≡◌, ◌≤◌};
-ghost use Rattle.arithmetic.specs.Doubles.{guarded};
+ghost use Rattle.std.specs.Prelude.{◌≡◌, ◌≤◌, ◌<◌};
+ghost use Rattle.uvtheory.specs.Literals as N;
+ghost use Rattle.uvtheory.specs.Parameters as P;
 ghost use Rattle.uvtheory.specs.Rows.{row, Row};
 ghost use Rattle.uvtheory.specs.Inputs.{parameters};
 ghost use Rattle.uvtheory.specs.Bh.HardSphere as F;
 
-use elementary::exponential::powf;
-use elementary::logarithm::ln;
-use operations::basic::div;
+use num_dual::dual_num::DualNum;
+use uvtheory::arrays::each;
 use uvtheory::parameters::{Mixture, bh_coefficients, inv_a76};
 
 pub const BH_CONSTANTS_ETA_B: [[f64; 2]; 3] = [
@@ -24,38 +24,47 @@ pub const BH_CONSTANTS_ETA_A: [[f64; 4]; 4] = [
 ];
 
 // Of one component, by its reduced temperature t and coefficients c.
-fn diameter_of(t: f64, c: [f64; 5], rep: f64, sigma: f64) -> f64
-    ensures { result ≡ F.diameter_of guarded t (row c 0) (row c 1) (row c 2) (row c 3) (row c 4) rep sigma }
+#[tactic(auto, unfolding(uvtheory::specs::Bh::HardSphere::quarter_powers, uvtheory::specs::Bh::HardSphere::diameter_by))]
+fn diameter_of<D: DualNum>(t: D, c: &[D; 5], rep: D, sigma: D) -> D
+    ensures { result ≡ F.diameter_of D.arithmetic t (row D.arithmetic c.now 0) (row D.arithmetic c.now 1) (row D.arithmetic c.now 2) (row D.arithmetic c.now 3) (row D.arithmetic c.now 4) rep sigma }
 {
-    let d = powf(t, 0.25) * c[1] + powf(t, 0.75) * c[2] + powf(t, 1.25) * c[3];
-    powf(
-        t * c[0] + d * ln(t + 1.0) + t * t * c[4] + 1.0,
-        div(-0.5, rep),
-    ) * sigma
+    let d = t.powf(D::from(0.25)) * c[1]
+        + t.powf(D::from(0.75)) * c[2]
+        + t.powf(D::from(1.25)) * c[3];
+    (t * c[0] + d * (t + D::from(1.0)).ln() + t.powi(2) * c[4] + D::from(1.0))
+        .powf(D::from(-0.5) / rep)
+        * sigma
 }
 
-pub fn diameter_bh(m: Mixture, temperature: f64) -> [f64; 8]
-    requires { m.n ≤ 8 }
-    ensures { Row m.n result (F.diameter_bh guarded (parameters guarded m) temperature) }
+// Of the i-th component, as sent.
+#[tactic(auto, unfolding(uvtheory::specs::Bh::HardSphere::diameter_bh))]
+fn component_diameter<D: DualNum>(m: &Mixture, i: usize, temperature: D, inv_a76: D) -> D
+    requires { (i < 8) × (inv_a76 ≡ P.inv_a76 D.arithmetic (D.arithmetic.constant N.six)) }
+    ensures { result ≡ F.diameter_bh D.arithmetic (parameters D.arithmetic m.now) temperature i }
 {
-    let n = m.n;
-    let rep = m.rep;
-    let sigma = m.sigma;
-    let epsilon_k = m.epsilon_k;
+    let rep = D::from(m.rep[i]);
+    let t = temperature / D::from(m.epsilon_k[i]);
+    let c = bh_coefficients(rep, inv_a76);
+    diameter_of(t, &c, rep, D::from(m.sigma[i]))
+}
+
+pub fn diameter_bh<D: DualNum>(m: &Mixture, temperature: D) -> [D; 8]
+    requires { m.now.n ≤ 8 }
+    ensures { Row D.arithmetic m.now.n result (F.diameter_bh D.arithmetic (parameters D.arithmetic m.now) temperature) }
+{
     let a76 = inv_a76();
-    let mut d = [0.0; 8];
-    let mut i = 0;
-    while i < n {
-        let c = bh_coefficients(rep[i], a76);
-        d[i] = diameter_of(div(temperature, epsilon_k[i]), c, rep[i], sigma[i]);
-        i += 1;
-    }
-    d
+    each(m.n, |i: usize| -> D
+        requires { (i < 8) × (a76 ≡ P.inv_a76 D.arithmetic (D.arithmetic.constant N.six)) }
+        ensures { result ≡ F.diameter_bh D.arithmetic (parameters D.arithmetic m.entry.now) temperature i }
+    {
+        component_diameter(m, i, temperature, a76)
+    })
 }
 
 // The dimensionless tau of a pair.
-pub fn tau(di: f64, si: f64, dj: f64, sj: f64) -> f64
-    ensures { result ≡ F.tau guarded di si dj sj }
+#[tactic(auto, unfolding(uvtheory::specs::Bh::HardSphere::tau))]
+pub fn tau<D: DualNum>(di: D, si: D, dj: D, sj: D) -> D
+    ensures { result ≡ F.tau D.arithmetic di si dj sj }
 {
-    -(div(di, si) + div(dj, sj)) * 0.5 + 1.0
+    -(di / si + dj / sj) * D::from(0.5) + D::from(1.0)
 }

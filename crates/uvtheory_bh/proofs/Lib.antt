@@ -1,0 +1,3 @@
+-- The laws of the perturbation.
+pub mod Pairs
+pub mod Sizes

@@ -1,7 +1,0 @@
-use mathlib.Core.Path.{refl}
-use Rattle.uvtheory.specs.Bh.ReferencePerturbation as F
-use Rattle.uvtheory_bh.proofs.reference_perturbation.term_of.Goals as goal
-
-pub returns : goal.returns
-unfolding F.term_of
-returns c = simp (c.term.ensures, c.packing_fraction_b-eta_b.ensures, c.packing_fraction_a-eta_a.ensures, c.tau-t.ensures) refl
