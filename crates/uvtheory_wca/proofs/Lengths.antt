@@ -17,7 +17,7 @@ use Rattle.uvtheory_wca.specs.Lengths.{LengthsOf}
 
 -- the place of a pair
 pub pair_fits : (n i j : ℕ) → n ≤ 8 → i ≤ j → j < n → i * n + j < 64
-pair_fits n i j few le inside = let z : i * n ≤ 7 * 8 = mul-le-mul (omega arith) few in omega (arith, z)
+pair_fits n i j few le inside = let low : i ≤ 7 = omega arith in let z : i * n ≤ 7 * 8 = mul-le-mul low few in omega (arith, z)
 
 -- f for i up to j, and the same at (j, i)
 module _ {X : Type 0} (f : ℕ → ℕ → X) where

@@ -1,2 +1,3 @@
 -- The laws of the tables of pairs.
 pub mod Lengths
+pub mod Sizes

@@ -49,14 +49,14 @@ pub struct Component<D> {
 fn term_of<D: DualNum>(
     ta: &[[f64; 4]; 4],
     tb: &[[f64; 2]; 3],
-    i: &Component<D>,
-    j: &Component<D>,
+    i: Component<D>,
+    j: Component<D>,
     q: D,
     sigma_ij: D,
     rep_ij: D,
     eta: D,
 ) -> D
-    ensures { result ≡ F.term_of D.arithmetic (table ta.now) (table tb.now) i.now.x j.now.x i.now.rm j.now.rm i.now.d j.now.d i.now.length j.now.length q sigma_ij rep_ij eta }
+    ensures { result ≡ F.term_of D.arithmetic (table ta.now) (table tb.now) i.x j.x i.rm j.rm i.d j.d i.length j.length q sigma_ij rep_ij eta }
 {
     let half = D::from(0.5);
     let t = tau(i.length, j.length, sigma_ij);
@@ -106,7 +106,7 @@ pub fn pair_sum<D: DualNum>(
         let rep_ij = c.rep_ij[k];
         let i = component_of(k / n, x, r);
         let j = component_of(k % n, x, r);
-        sum = sum + term_of(ta, tb, &i, &j, q_ij, sigma_ij, rep_ij, eta);
+        sum = sum + term_of(ta, tb, i, j, q_ij, sigma_ij, rep_ij, eta);
     }
     sum
 }

@@ -1,10 +1,11 @@
-use Rattle.std.proofs.Common.{◌∙◌}
+use Rattle.std.proofs.Common.{rules, ◌∙◌}
 use Rattle.uvtheory.specs.Rows.{missing}
 use Rattle.uvtheory.specs.Inputs.{state_of}
 use Rattle.uvtheory.specs.Wca.HardSphere.{diameter_wca}
 use Rattle.uvtheory.proofs.Loops.{adds}
 use Rattle.uvtheory.proofs.Sums.{spherical_of}
 use Rattle.uvtheory.proofs.Combined.{rep_symmetric, att_symmetric, epsilon_symmetric}
+use Rattle.uvtheory_wca.proofs.Sizes.{rows_fit, tables_fit, combined_fits}
 use Rattle.uvtheory_wca.proofs.Lengths.{lengths_are}
 use Rattle.uvtheory_b3.proofs.residual_helmholtz_energy_contributions_b3.Goals as goal
 
@@ -19,16 +20,47 @@ returns g c =
 pub helmholtz_energy_density-requires-2 : goal.helmholtz_energy_density-requires-2
 helmholtz_energy_density-requires-2 g c =
     let A = g.D.DualNum.arithmetic in
+    let aligned = g.met.D.DualNum.aligned in
+    let small = g.met.D.DualNum.small in
+    let rows = rows_fit _ _ aligned small in
+    let tables = tables_fit _ _ aligned small in
+    let combined = combined_fits _ _ aligned small in
     let a = c.combine-c in
     let l = c.pair_lengths-l in
-    record { n_bound = (c.requires, a.ensures, c.component_lengths-r.ensures, lengths_are A c.args.m.now a.result c.args.s.now.temperature l.result a.ensures l.ensures.0 l.ensures.1); density_value = c.sum-density.ensures }
+    let lengths = lengths_are A c.args.m.now a.result c.args.s.now.temperature l.result a.ensures l.ensures.0 l.ensures.1 in
+    let d = c.component_lengths-r.ensures.d_are in
+    search rules
 
 pub helmholtz_energy_density-requires-3 : goal.helmholtz_energy_density-requires-3
 helmholtz_energy_density-requires-3 g c =
     let A = g.D.DualNum.arithmetic in
+    let aligned = g.met.D.DualNum.aligned in
+    let small = g.met.D.DualNum.small in
+    let rows = rows_fit _ _ aligned small in
+    let tables = tables_fit _ _ aligned small in
+    let combined = combined_fits _ _ aligned small in
     let a = c.combine-c in
     let l = c.pair_lengths-l in
-    record { n_bound = (c.requires, a.ensures, lengths_are A c.args.m.now a.result c.args.s.now.temperature l.result a.ensures l.ensures.0 l.ensures.1, c.component_lengths-r.ensures.d_are); density_value = c.sum-density.ensures }
+    let lengths = lengths_are A c.args.m.now a.result c.args.s.now.temperature l.result a.ensures l.ensures.0 l.ensures.1 in
+    let d = c.component_lengths-r.ensures.d_are in
+    search rules
 
 pub pair_lengths-l-requires : goal.pair_lengths-l-requires
-pair_lengths-l-requires g c = let A = g.D.DualNum.arithmetic in let h = c.combine-c.ensures in (c.requires, rep_symmetric A h, att_symmetric A h, epsilon_symmetric A h)
+pair_lengths-l-requires g c =
+    let A = g.D.DualNum.arithmetic in
+    let aligned = g.met.D.DualNum.aligned in
+    let small = g.met.D.DualNum.small in
+    let rows = rows_fit _ _ aligned small in
+    let tables = tables_fit _ _ aligned small in
+    let combined = combined_fits _ _ aligned small in
+    let h = c.combine-c.ensures in
+    let rep = rep_symmetric A h in
+    let att = att_symmetric A h in
+    let eps = epsilon_symmetric A h in
+    search rules
+
+pub combine-c-requires : goal.combine-c-requires
+combine-c-requires g c = (combined_fits _ _ g.met.D.DualNum.aligned g.met.D.DualNum.small, c.requires)
+
+pub component_lengths-r-requires : goal.component_lengths-r-requires
+component_lengths-r-requires g c = (rows_fit _ _ g.met.D.DualNum.aligned g.met.D.DualNum.small, c.requires)

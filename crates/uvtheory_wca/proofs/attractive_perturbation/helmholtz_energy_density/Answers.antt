@@ -1,4 +1,4 @@
-use Rattle.std.proofs.Common.{ℕ, ◌∙◌}
+use Rattle.std.proofs.Common.{rules, ℕ, ◌∙◌}
 use Rattle.uvtheory.specs.Rows.{missing, row}
 use Rattle.uvtheory.specs.Inputs.{parameters}
 use Rattle.uvtheory.specs.Wca.HardSphere.{rm_of, diameter_wca, dimensionless_diameter_q_wca}
@@ -6,6 +6,7 @@ use Rattle.uvtheory.specs.Wca.AttractivePerturbation as F
 use Rattle.uvtheory.proofs.Loops.{adds}
 use Rattle.uvtheory.proofs.Combined.{rep_symmetric, att_symmetric, epsilon_symmetric}
 use Rattle.uvtheory.proofs.Sums.{matrix_at, rep_at, att_at, epsilon_at, one_fluid_held, virial_sum_held}
+use Rattle.uvtheory_wca.proofs.Sizes.{rows_fit, tables_fit, combined_fits}
 use Rattle.uvtheory_wca.proofs.Lengths.{rm_symmetric, q_symmetric}
 use Rattle.uvtheory_wca.proofs.attractive_perturbation.helmholtz_energy_density.Goals as goal
 
@@ -50,6 +51,16 @@ returns g c =
 pub delta_b2_ij-b2-requires : goal.delta_b2_ij-b2-requires
 delta_b2_ij-b2-requires g c =
     let A = g.D.DualNum.arithmetic in
+    let aligned = g.met.D.DualNum.aligned in
+    let small = g.met.D.DualNum.small in
+    let rows = rows_fit _ _ aligned small in
+    let tables = tables_fit _ _ aligned small in
+    let combined = combined_fits _ _ aligned small in
     let h = c.requires.n_bound.1 in
     let l = c.requires.n_bound.2 in
-    (c.requires.n_bound.0, rep_symmetric A h, att_symmetric A h, epsilon_symmetric A h, q_symmetric A l, rm_symmetric A l)
+    let rep = rep_symmetric A h in
+    let att = att_symmetric A h in
+    let eps = epsilon_symmetric A h in
+    let q = q_symmetric A l in
+    let rm = rm_symmetric A l in
+    search rules
