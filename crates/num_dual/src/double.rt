@@ -1,9 +1,10 @@
 // Plain doubles as a number type.
-ghost use Rattle.std.specs.Prelude.{◌≡◌, T, Float};
+ghost use Rattle.std.specs.Prelude.{◌≡◌, T, Float, refl};
 ghost use Rattle.std.specs.Float.Ieee.Scale.{finite};
 ghost use Rattle.std.proofs.Common.{lit≤};
 ghost use Rattle.arithmetic.specs.Doubles.{guarded};
 ghost use Rattle.arithmetic.proofs.Repeated.{empty_sum, longer_sum, single_factor};
+ghost use Rattle.num_dual.specs.Powers.{powers_by};
 
 use crate::dual_num::DualNum;
 use elementary::exponential::{exp, powf, tanh};
@@ -181,6 +182,8 @@ impl DualNum for Double {
     ghost div_is = { λ _ _ _ e. e };
 
     ghost powi_one = { single_factor _ _ };
+
+    ghost powi_step = { powers_by guarded _ (λ _ _. refl) };
 
     ghost sum_start = { empty_sum _ _ };
 

@@ -5,6 +5,7 @@ ghost use Rattle.std.specs.Align.{type_align};
 ghost use Rattle.std.specs.Mem.{type_size};
 ghost use Rattle.arithmetic.specs.Arithmetic.{Arithmetic};
 ghost use Rattle.arithmetic.specs.Constants.{zero_d};
+ghost use Rattle.num_dual.specs.Powers.{PowersFromLeft};
 
 use std::ops::{Add, Div, Mul, Neg, Sub};
 
@@ -71,8 +72,10 @@ pub trait DualNum: Copy
 
     ghost div_is: { (a b r : Self) → Self.div_gives a b r → r ≡ arithmetic.div a b };
 
-    // A power of one factor.
+    // A power of one factor, and of one more.
     ghost powi_one: { (a : Self) → arithmetic.powi a 1 ≡ a };
+
+    ghost powi_step: { PowersFromLeft arithmetic };
 
     // Sums go from the left.
     ghost sum_start: { (f : ℕ → Self) → arithmetic.sum 0 f ≡ arithmetic.constant zero_d };

@@ -1,8 +1,9 @@
 // Ranges and values with slopes as number types.
-ghost use Rattle.std.specs.Prelude.{◌≡◌, T};
+ghost use Rattle.std.specs.Prelude.{◌≡◌, T, refl};
 ghost use Rattle.std.specs.Float.Ieee.Scale.{finite};
 ghost use Rattle.std.proofs.Common.{lit≤};
 ghost use Rattle.arithmetic.proofs.Repeated.{empty_sum, longer_sum, single_factor};
+ghost use Rattle.num_dual.specs.Powers.{powers_by};
 ghost use Rattle.range.specs.Rules.{ranges};
 ghost use Rattle.dual.specs.Rules.{guarded_slopes};
 
@@ -73,6 +74,8 @@ impl DualNum for Range {
 
     ghost powi_one = { single_factor _ _ };
 
+    ghost powi_step = { powers_by ranges _ (λ _ _. refl) };
+
     ghost sum_start = { empty_sum _ _ };
 
     ghost sum_step = { longer_sum _ _ };
@@ -140,6 +143,8 @@ impl DualNum for Dual {
     ghost div_is = { λ _ _ _ e. e };
 
     ghost powi_one = { single_factor _ _ };
+
+    ghost powi_step = { powers_by guarded_slopes _ (λ _ _. refl) };
 
     ghost sum_start = { empty_sum _ _ };
 

@@ -1,16 +1,15 @@
 // uvtheory/eos/wca/attractive_perturbation_uvb3.rs: the attractive perturbation of WCA-B3.
-ghost use Rattle.std.specs.Prelude.{◌≡◌, ◌≤◌, ◌<◌};
-ghost use Rattle.arithmetic.specs.Doubles.{guarded};
+ghost use Rattle.std.specs.Prelude.{◌≡◌, ◌+◌, ◌*◌, ◌≤◌, ◌<◌};
 ghost use Rattle.uvtheory.specs.Literals as N;
-ghost use Rattle.uvtheory.specs.Rows.{row, matrix, fluid, Row, Matrix};
-ghost use Rattle.uvtheory.specs.Inputs.{parameters, state};
-ghost use Rattle.uvtheory.specs.Held.{CombinedOf, Symmetric};
-ghost use Rattle.uvtheory_wca.specs.Lengths.{LengthsOf};
+ghost use Rattle.uvtheory.specs.Rows.{doubles, row, matrix, Row, Matrix, Symmetric};
+ghost use Rattle.uvtheory.specs.Inputs.{parameters, state_of};
+ghost use Rattle.uvtheory.specs.Held.{CombinedOf};
 ghost use Rattle.uvtheory.specs.Wca.HardSphere.{diameter_wca};
 ghost use Rattle.uvtheory.specs.Wca.AttractivePerturbationUvb3 as F;
+ghost use Rattle.uvtheory_wca.specs.Lengths.{LengthsOf};
 
-use elementary::exponential::{exp, powf, tanh};
-use operations::basic::{div, is_finite};
+use num_dual::dual_num::DualNum;
+use uvtheory::arrays::{constants, symmetric};
 use uvtheory::consts::PI;
 use uvtheory::one_fluid::{OneFluid, mean_cube, one_fluid_properties, virial_sum};
 use uvtheory::packing_fraction::coefficient_b;
@@ -65,150 +64,171 @@ pub const WHOLES: [f64; 14] = [
 ];
 
 // The low temperature correction; e is the exponential of both its cases.
-fn omega(t_x: f64, e: f64) -> f64
-    ensures { result ≡ F.omega guarded t_x e }
+#[tactic(auto, unfolding(uvtheory::specs::Wca::AttractivePerturbationUvb3::omega))]
+fn omega<D: DualNum>(t_x: D, e: D) -> D
+    ensures { result ≡ F.omega D.arithmetic t_x e }
 {
-    if is_finite(t_x) {
-        if t_x < 175.0 {
-            let c = div(1.0, tanh(t_x * CU_WCA[7])) - 1.0;
-            return e * (c * c);
-        }
-        return e * 0.0;
-    }
-    0.0 / 0.0
+    let one = D::from(1.0);
+    let low = e * (one / (t_x * D::from(CU_WCA[7])).tanh() - one).powi(2);
+    t_x.if_below(175.0, low, e * D::from(0.0))
 }
 
-fn u_fraction_wca(rep_x: f64, reduced_density: f64, t_x: f64) -> f64
-    ensures { result ≡ F.u_fraction_wca guarded rep_x reduced_density t_x }
+#[tactic(auto, unfolding(uvtheory::specs::Wca::AttractivePerturbationUvb3::u_fraction_wca))]
+fn u_fraction_wca<D: DualNum>(rep_x: D, reduced_density: D, t_x: D) -> D
+    ensures { result ≡ F.u_fraction_wca D.arithmetic rep_x reduced_density t_x }
 {
-    let c = CU_WCA;
-    let s = reduced_density - c[6];
-    let omega = omega(t_x, exp(-t_x * c[5] * (s * s)));
-    let rho2 = reduced_density * reduced_density;
-    -exp(-(rho2 * (div(1.0, rep_x + c[4]) * c[3] + c[2]) + omega)) + 1.0
+    let one = D::from(1.0);
+    let c = &CU_WCA;
+    let e = (-t_x * D::from(c[5]) * (reduced_density - D::from(c[6])).powi(2)).exp();
+    -(-(reduced_density.powi(2) * (one / (rep_x + D::from(c[4])) * D::from(c[3]) + D::from(c[2]))
+        + omega(t_x, e)))
+    .exp()
+        + one
 }
 
 // A coefficient by its row of C_B2_RSAP, and the reciprocals of rep and its powers.
-fn coefficient_rsap(c: [f64; 4], r1: f64, r2: f64, r3: f64) -> f64
-    ensures { result ≡ F.coefficient_rsap_of guarded (row c) r1 r2 r3 }
+#[tactic(auto, unfolding(uvtheory::specs::Wca::AttractivePerturbationUvb3::coefficient_rsap_of))]
+fn coefficient_rsap<D: DualNum>(c: &[f64; 4], r1: D, r2: D, r3: D) -> D
+    ensures { result ≡ F.coefficient_rsap_of D.arithmetic (doubles c.now) r1 r2 r3 }
 {
-    r1 * c[1] + r2 * c[2] + r3 * c[3] + c[0]
+    r1 * D::from(c[1]) + r2 * D::from(c[2]) + r3 * D::from(c[3]) + D::from(c[0])
 }
 
 // Each power of beta is the one before it times beta.
-fn sum_beta(beta: f64) -> f64
-    ensures { result ≡ F.sum_beta guarded 14 beta }
+#[tactic(auto, unfolding(uvtheory::specs::Wca::AttractivePerturbationUvb3::sum_beta, num_dual::specs::Powers::PowersFromLeft))]
+fn sum_beta<D: DualNum>(beta: D) -> D
+    ensures { result ≡ F.sum_beta D.arithmetic 14 beta }
 {
     let mut sum = beta;
     let mut power = beta;
-    let mut m = 0;
-    while m < 14 {
+    for m in 0..14 {
         power = power * beta;
-        sum = sum + div(power, FACTORIALS[m] * WHOLES[m]);
-        m += 1;
+        sum = sum + power / (D::from(FACTORIALS[m]) * D::from(WHOLES[m]));
     }
     sum
 }
 
 // By the place rm of the minimum of rep and att.
-pub fn delta_b2(reduced_temperature: f64, rep: f64, q: f64, rm: f64) -> f64
-    ensures { result ≡ F.delta_b2_of guarded reduced_temperature rep q rm }
+#[tactic(auto, unfolding(uvtheory::specs::Wca::AttractivePerturbationUvb3::delta_b2_of, uvtheory::specs::Wca::AttractivePerturbationUvb3::coefficient_rsap_of, uvtheory::specs::Wca::AttractivePerturbationUvb3::sum_beta))]
+pub fn delta_b2<D: DualNum>(reduced_temperature: D, rep: D, q: D, rm: D) -> D
+    ensures { result ≡ F.delta_b2_of D.arithmetic reduced_temperature rep q rm }
 {
-    let c = C_B2_RSAP;
-    let beta = div(1.0, reduced_temperature);
-    let b20 = div(q * q * q * 2.0, 3.0) * PI;
-    let y = exp(beta) - 1.0;
-    let rep2 = rep * rep;
-    let r1 = div(1.0, rep);
-    let r2 = div(1.0, rep2);
-    let r3 = div(1.0, rep2 * rep);
-    (b20 - div(rm * rm * rm * 2.0, 3.0) * PI - coefficient_rsap(c[0], r1, r2, r3)) * y
-        - sum_beta(beta) * coefficient_rsap(c[1], r1, r2, r3)
-        - beta * coefficient_rsap(c[2], r1, r2, r3)
-        - beta * beta * coefficient_rsap(c[3], r1, r2, r3)
+    let one = D::from(1.0);
+    let two = D::from(2.0);
+    let three = D::from(3.0);
+    let pi = D::from(PI);
+    let c = &C_B2_RSAP;
+    let beta = one / reduced_temperature;
+    let b20 = q.powi(3) * two / three * pi;
+    let y = beta.exp() - one;
+    let r1 = one / rep;
+    let r2 = one / rep.powi(2);
+    let r3 = one / rep.powi(3);
+    (b20 - rm.powi(3) * two / three * pi - coefficient_rsap(&c[0], r1, r2, r3)) * y
+        - sum_beta(beta) * coefficient_rsap(&c[1], r1, r2, r3)
+        - beta * coefficient_rsap(&c[2], r1, r2, r3)
+        - beta.powi(2) * coefficient_rsap(&c[3], r1, r2, r3)
 }
 
 // k1 by the first row of C_WCA and the reciprocals of nu and its square.
-fn k1_of(c: [f64; 6], r1: f64, r2: f64, tau: f64) -> f64
-    ensures { result ≡ F.k1_of guarded (row c) r1 r2 tau }
+#[tactic(auto, unfolding(uvtheory::specs::Wca::AttractivePerturbationUvb3::k1_of))]
+fn k1_of<D: DualNum>(c: &[f64; 6], r1: D, r2: D, tau: D) -> D
+    ensures { result ≡ F.k1_of D.arithmetic (doubles c.now) r1 r2 tau }
 {
-    r1 * c[1] + r2 * c[2] + c[0] + (r1 * c[4] + r2 * c[5] + c[3]) * tau
+    r1 * D::from(c[1])
+        + r2 * D::from(c[2])
+        + D::from(c[0])
+        + (r1 * D::from(c[4]) + r2 * D::from(c[5]) + D::from(c[3])) * tau
 }
 
 // By the prefactor c of nu and att.
-fn delta_b31u(t_x: f64, weighted_sigma3_ij: f64, rm_x: f64, nu: f64, c: f64, d_x: f64) -> f64
-    ensures { result ≡ F.delta_b31u_of guarded t_x weighted_sigma3_ij rm_x nu c d_x }
+#[tactic(auto, unfolding(uvtheory::specs::Wca::AttractivePerturbationUvb3::delta_b31u_of))]
+fn delta_b31u<D: DualNum>(t_x: D, weighted_sigma3_ij: D, rm_x: D, nu: D, c: D, d_x: D) -> D
+    ensures { result ≡ F.delta_b31u_of D.arithmetic t_x weighted_sigma3_ij rm_x nu c d_x }
 {
-    let k1 = k1_of(C_WCA[0], div(1.0, nu), div(1.0, nu * nu), rm_x - d_x);
-    div(1.0, t_x) * 4.0 * c * PI * k1 * (weighted_sigma3_ij * weighted_sigma3_ij)
+    let one = D::from(1.0);
+    let k1 = k1_of(&C_WCA[0], one / nu, one / nu.powi(2), rm_x - d_x);
+    one / t_x * D::from(4.0) * c * D::from(PI) * k1 * weighted_sigma3_ij.powi(2)
 }
 
 // b31 to b34, for i from 0: by four entries of K_LJ_B3 and one of each other table.
-fn b3_term(i: usize, t_x: f64, rep_x: f64) -> f64
+#[tactic(auto, unfolding(uvtheory::specs::Wca::AttractivePerturbationUvb3::b3_term))]
+fn b3_term<D: DualNum>(i: usize, t_x: D, rep_x: D) -> D
     requires { i < 4 }
-    ensures { result ≡ F.b3_term guarded i t_x rep_x }
+    ensures { result ≡ F.b3_term D.arithmetic i t_x rep_x }
 {
-    let k = K_LJ_B3;
+    let one = D::from(1.0);
+    let k = &K_LJ_B3;
     let j = 4 * i;
-    let r = rep_x - 12.0;
-    let e = (div(r, rep_x - 6.0) * M_B3[i] + 1.0) * k[j + 3];
-    let s = div(r, rep_x - L_B3[i]) * P_B3[i] + 1.0;
-    div(1.0, powf(t_x + k[j + 2], e)) * k[j + 1] * s + k[j]
+    let r = rep_x - D::from(12.0);
+    let e = (r / (rep_x - D::from(6.0)) * D::from(M_B3[i]) + one) * D::from(k[j + 3]);
+    let s = r / (rep_x - D::from(L_B3[i])) * D::from(P_B3[i]) + one;
+    one / (t_x + D::from(k[j + 2])).powf(e) * D::from(k[j + 1]) * s + D::from(k[j])
 }
 
 // Ten times the square of the volume of a sphere.
-fn ten_volumes(d: f64) -> f64
-    ensures { result ≡ F.ten_volumes guarded d }
+#[tactic(auto, unfolding(uvtheory::specs::Wca::AttractivePerturbationUvb3::ten_volumes))]
+fn ten_volumes<D: DualNum>(d: D) -> D
+    ensures { result ≡ F.ten_volumes D.arithmetic d }
 {
-    let v = div(d * d * d * PI, 6.0);
-    v * v * 10.0
+    (d.powi(3) * D::from(PI) / D::from(6.0)).powi(2) * D::from(10.0)
 }
 
 // By the first row of WCA_CONSTANTS_ETA_A_UVB3. Its sums stand the other way round than in packing_fraction_a.
-fn c1_eta_a(a: [f64; 4], tau: f64, rep_inv: f64) -> f64
-    ensures { result ≡ F.c1_eta_a guarded (row a) tau rep_inv }
+#[tactic(auto, unfolding(uvtheory::specs::Wca::AttractivePerturbationUvb3::c1_eta_a))]
+fn c1_eta_a<D: DualNum>(a: &[f64; 4], tau: D, rep_inv: D) -> D
+    ensures { result ≡ F.c1_eta_a D.arithmetic (doubles a.now) tau rep_inv }
 {
-    tau * (rep_inv * a[1] + a[0]) + tau * tau * (rep_inv * a[3] + a[2])
+    tau * (rep_inv * D::from(a[1]) + D::from(a[0]))
+        + tau * tau * (rep_inv * D::from(a[3]) + D::from(a[2]))
 }
 
-fn b30_uv(rm_x: f64, rep_x: f64, d_x: f64, q_x: f64) -> f64
-    ensures { result ≡ F.b30_uv guarded rm_x rep_x d_x q_x }
+#[tactic(auto, unfolding(uvtheory::specs::Wca::AttractivePerturbationUvb3::b30_uv))]
+fn b30_uv<D: DualNum>(rm_x: D, rep_x: D, d_x: D, q_x: D) -> D
+    ensures { result ≡ F.b30_uv D.arithmetic rm_x rep_x d_x q_x }
 {
+    let one = D::from(1.0);
     let tau = -d_x + rm_x;
-    let c1_eta_a = c1_eta_a(WCA_CONSTANTS_ETA_A_UVB3[0], tau, div(1.0, rep_x));
-    let c1_eta_b = coefficient_b(WCA_CONSTANTS_ETA_B_UVB3[0], tau);
-    let d3 = d_x * d_x * d_x;
-    let rm3 = rm_x * rm_x * rm_x;
+    let c1_eta_a = c1_eta_a(&WCA_CONSTANTS_ETA_A_UVB3[0], tau, one / rep_x);
+    let c1_eta_b = coefficient_b(&WCA_CONSTANTS_ETA_B_UVB3[0], tau);
+    let d3 = d_x.powi(3);
+    let rm3 = rm_x.powi(3);
     ten_volumes(d_x)
-        - div(d3 * 5.0, 9.0)
-            * (PI * PI)
-            * ((-(q_x * q_x * q_x) + rm3) * (c1_eta_a + 1.0) - (-d3 + rm3) * (c1_eta_b + 1.0))
+        - d3 * D::from(5.0) / D::from(9.0)
+            * D::from(PI).powi(2)
+            * ((-q_x.powi(3) + rm3) * (c1_eta_a + one) - (-d3 + rm3) * (c1_eta_b + one))
 }
 
-pub fn delta_b3(t_x: f64, rm_x: f64, rep_x: f64, d_x: f64, q_x: f64) -> f64
-    ensures { result ≡ F.delta_b3 guarded t_x rm_x rep_x d_x q_x }
+#[tactic(auto, unfolding(uvtheory::specs::Wca::AttractivePerturbationUvb3::delta_b3))]
+pub fn delta_b3<D: DualNum>(t_x: D, rm_x: D, rep_x: D, d_x: D, q_x: D) -> D
+    ensures { result ≡ F.delta_b3 D.arithmetic t_x rm_x rep_x d_x q_x }
 {
-    let beta = div(1.0, t_x);
-    let beta2 = beta * beta;
-    let beta3 = beta2 * beta;
-    let b31 = b3_term(0, t_x, rep_x);
-    let b32 = b3_term(1, t_x, rep_x);
-    let b33 = b3_term(2, t_x, rep_x);
-    let b34 = b3_term(3, t_x, rep_x);
-    ten_volumes(q_x) + b31 * beta + b32 * beta2 + b33 * beta3 + b34 * (beta3 * beta)
+    let beta = D::from(1.0) / t_x;
+    ten_volumes(q_x)
+        + b3_term(0, t_x, rep_x) * beta
+        + b3_term(1, t_x, rep_x) * beta.powi(2)
+        + b3_term(2, t_x, rep_x) * beta.powi(3)
+        + b3_term(3, t_x, rep_x) * beta.powi(4)
         - b30_uv(rm_x, rep_x, d_x, q_x)
 }
 
-fn alpha(rho_x: f64, rep_x: f64, t_x: f64) -> f64
-    ensures { result ≡ F.alpha guarded rho_x rep_x t_x }
+#[tactic(auto, unfolding(uvtheory::specs::Wca::AttractivePerturbationUvb3::alpha))]
+fn alpha<D: DualNum>(rho_x: D, rep_x: D, t_x: D) -> D
+    ensures { result ≡ F.alpha D.arithmetic rho_x rep_x t_x }
 {
-    exp(-rho_x * div(1.0, rep_x) * CU_WCA[0] * (div(1.0, t_x * t_x) * CU_WCA[1] + 1.0))
+    let one = D::from(1.0);
+    (-rho_x
+        * (one / rep_x)
+        * D::from(CU_WCA[0])
+        * (one / t_x.powi(2) * D::from(CU_WCA[1]) + one))
+        .exp()
 }
 
-pub fn energy(o: OneFluid, t: f64, density: f64, rho: f64, b2bar: f64, b3bar: f64) -> f64
-    ensures { result ≡ F.energy guarded (fluid o) t density rho b2bar b3bar }
+#[tactic(auto, unfolding(uvtheory::specs::Wca::AttractivePerturbationUvb3::energy))]
+pub fn energy<D: DualNum>(o: &OneFluid<D>, t: D, density: D, rho: D, b2bar: D, b3bar: D) -> D
+    ensures { result ≡ F.energy D.arithmetic o.now t density rho b2bar b3bar }
 {
-    let t_x = div(t, o.epsilon_k);
+    let t_x = t / o.epsilon_k;
     let rm_x = rm_of(o.rep, o.att);
     let c = mie_prefactor(o.rep, o.att);
     let mean_field_constant_x = mean_field_of(c, o.rep, o.att, rm_x);
@@ -222,134 +242,72 @@ pub fn energy(o: OneFluid, t: f64, density: f64, rho: f64, b2bar: f64, b3bar: f6
         rm_x,
     );
     let db31u = delta_b31u(t_x, o.weighted_sigma3_ij, rm_x, o.rep, c, o.d);
-    let a = alpha(density * (o.sigma * o.sigma * o.sigma), o.rep, t_x);
-    let b = (b2bar - b21u) * density + density * density * a * (b3bar - db31u) * 0.5;
-    density * (a1u + (-u_fraction_wca(o.rep, rho, t_x) + 1.0) * b)
+    let a = alpha(density * o.sigma.powi(3), o.rep, t_x);
+    let b = (b2bar - b21u) * density + density.powi(2) * a * (b3bar - db31u) * D::from(0.5);
+    density * (a1u + (-u_fraction_wca(o.rep, rho, t_x) + D::from(1.0)) * b)
 }
 
-// Of the pair (i, j), or what was worked for (j, i).
-fn delta_b2_at(
-    i: usize,
-    j: usize,
-    t: f64,
-    eps_k: f64,
-    rep: f64,
-    q: f64,
-    rm: f64,
-    worked: f64,
-) -> f64
-    requires { j < i → worked ≡ F.delta_b2_of guarded (guarded.div t eps_k) rep q rm }
-    ensures { result ≡ F.delta_b2_of guarded (guarded.div t eps_k) rep q rm }
+#[tactic(auto, using(uvtheory_wca::proofs::Lengths::pair_fits))]
+fn delta_b2_ij<D: DualNum>(n: usize, c: &Combined<D>, t: D, l: &LengthTables<D>) -> [D; 64]
+    requires { (n ≤ 8) × Symmetric D.arithmetic n c.now.rep_ij × Symmetric D.arithmetic n c.now.eps_k_ij × Symmetric D.arithmetic n l.now.q × Symmetric D.arithmetic n l.now.rm }
+    ensures { Matrix D.arithmetic n result (λ i j. F.delta_b2_of D.arithmetic (D.arithmetic.div t (matrix D.arithmetic n c.now.eps_k_ij i j)) (matrix D.arithmetic n c.now.rep_ij i j) (matrix D.arithmetic n l.now.q i j) (matrix D.arithmetic n l.now.rm i j)) }
 {
-    if j < i {
-        return worked;
-    }
-    delta_b2(div(t, eps_k), rep, q, rm)
+    symmetric(
+        n,
+        |i: usize, j: usize| -> D
+            requires { i * n + j < 64 }
+            ensures { result ≡ F.delta_b2_of D.arithmetic (D.arithmetic.div t (matrix D.arithmetic n c.entry.now.eps_k_ij i j)) (matrix D.arithmetic n c.entry.now.rep_ij i j) (matrix D.arithmetic n l.entry.now.q i j) (matrix D.arithmetic n l.entry.now.rm i j) }
+        {
+            let k = i * n + j;
+            delta_b2(t / c.eps_k_ij[k], c.rep_ij[k], l.q[k], l.rm[k])
+        },
+    )
 }
 
-// Of all pairs: each is worked once, for i up to j, and copied.
-fn delta_b2_ij(n: usize, c: Combined, t: f64, l: LengthTables) -> [f64; 64]
-    requires { (n ≤ 8) × Symmetric n c.rep_ij × Symmetric n c.eps_k_ij × Symmetric n l.q × Symmetric n l.rm }
-    ensures { Matrix n result (λ i j. F.delta_b2_of guarded (guarded.div t (matrix n c.eps_k_ij i j)) (matrix n c.rep_ij i j) (matrix n l.q i j) (matrix n l.rm i j)) }
-{
-    let rep_ij = c.rep_ij;
-    let eps_k_ij = c.eps_k_ij;
-    let q = l.q;
-    let rm = l.rm;
-    let mut b2 = [0.0; 64];
-    let mut k = 0;
-    while k < n * n {
-        let i = k / n;
-        let j = k % n;
-        b2[k] = delta_b2_at(i, j, t, eps_k_ij[k], rep_ij[k], q[k], rm[k], b2[j * n + i]);
-        k += 1;
-    }
-    b2
-}
-
-// Of the pair of components with diameters di and dj.
-fn delta_b3_at(
-    t: f64,
-    eps_k: f64,
-    rm: f64,
-    rep: f64,
-    q: f64,
-    di: f64,
-    si: f64,
-    dj: f64,
-    sj: f64,
-) -> f64
-    ensures { result ≡ F.delta_b3 guarded (guarded.div t eps_k) rm rep (guarded.mul (guarded.add (guarded.div di si) (guarded.div dj sj)) N.half) q }
-{
-    delta_b3(div(t, eps_k), rm, rep, (div(di, si) + div(dj, sj)) * 0.5, q)
-}
-
-fn delta_b3_ij(
+// Of all pairs; no sum of two diameters is taken to be the same the other way round.
+fn delta_b3_ij<D: DualNum>(
     n: usize,
-    c: Combined,
-    t: f64,
-    l: LengthTables,
-    d: &[f64; 8],
-    sigma: &[f64; 8],
-) -> [f64; 64]
+    c: &Combined<D>,
+    t: D,
+    l: &LengthTables<D>,
+    d: &[D; 8],
+    sigma: &[D; 8],
+) -> [D; 64]
     requires { n ≤ 8 }
-    ensures { Matrix n result (λ i j. F.delta_b3 guarded (guarded.div t (matrix n c.eps_k_ij i j)) (matrix n l.rm i j) (matrix n c.rep_ij i j)
-        (guarded.mul (guarded.add (guarded.div (row d.now i) (row sigma.now i)) (guarded.div (row d.now j) (row sigma.now j))) N.half) (matrix n l.q i j)) }
+    ensures { Matrix D.arithmetic n result (λ i j. F.delta_b3 D.arithmetic (D.arithmetic.div t (matrix D.arithmetic n c.now.eps_k_ij i j)) (matrix D.arithmetic n l.now.rm i j) (matrix D.arithmetic n c.now.rep_ij i j)
+        (D.arithmetic.mul (D.arithmetic.add (D.arithmetic.div (row D.arithmetic d.now i) (row D.arithmetic sigma.now i)) (D.arithmetic.div (row D.arithmetic d.now j) (row D.arithmetic sigma.now j))) (D.arithmetic.constant N.half)) (matrix D.arithmetic n l.now.q i j)) }
 {
-    let rep_ij = c.rep_ij;
-    let eps_k_ij = c.eps_k_ij;
-    let q = l.q;
-    let rm = l.rm;
-    let mut b3 = [0.0; 64];
-    let mut k = 0;
-    while k < n * n {
+    let mut b3 = [D::from(0.0); 64];
+    for k in 0..n * n {
         let i = k / n;
         let j = k % n;
-        b3[k] = delta_b3_at(
-            t,
-            eps_k_ij[k],
-            rm[k],
-            rep_ij[k],
-            q[k],
-            d[i],
-            sigma[i],
-            d[j],
-            sigma[j],
-        );
-        k += 1;
+        let d_ij = (d[i] / sigma[i] + d[j] / sigma[j]) * D::from(0.5);
+        b3[k] = delta_b3(t / c.eps_k_ij[k], l.rm[k], c.rep_ij[k], d_ij, l.q[k]);
     }
     b3
 }
 
 // By the combined values c, the lengths l of the pairs, the diameters d and the density.
-pub fn helmholtz_energy_density(
-    m: Mixture,
-    s: State,
-    c: Combined,
-    l: LengthTables,
-    d: &[f64; 8],
-    density: f64,
-) -> f64
-    requires n_bound { (m.n ≤ 8) × CombinedOf m c × LengthsOf m s.temperature l × Row m.n d.now (diameter_wca guarded (parameters guarded m) s.temperature) }
-    requires density_value { density ≡ guarded.sum m.n (row s.partial_density) }
-    ensures { result ≡ F.helmholtz_energy_density guarded (parameters guarded m) (state guarded s) }
+pub fn helmholtz_energy_density<D: DualNum>(
+    m: &Mixture,
+    s: &State<D>,
+    c: &Combined<D>,
+    l: &LengthTables<D>,
+    d: &[D; 8],
+    density: D,
+) -> D
+    requires n_bound { (m.now.n ≤ 8) × CombinedOf D.arithmetic m.now c.now × LengthsOf D.arithmetic m.now s.now.temperature l.now × Row D.arithmetic m.now.n d.now (diameter_wca D.arithmetic (parameters D.arithmetic m.now) s.now.temperature) }
+    requires density_value { density ≡ D.arithmetic.sum m.now.n (row D.arithmetic s.now.partial_density) }
+    ensures { result ≡ F.helmholtz_energy_density D.arithmetic (parameters D.arithmetic m.now) (state_of D.arithmetic s.now) }
 {
     let n = m.n;
     let t = s.temperature;
-    let x = s.molefracs;
-    let sigma = m.sigma;
-    let sigma_ij = c.sigma_ij;
-    let o = one_fluid_properties(n, c, &sigma, &x, d);
+    let x = &s.molefracs;
+    let sigma = constants(&m.sigma);
+    let o = one_fluid_properties(n, c, &sigma, x, d);
     let b2 = delta_b2_ij(n, c, t, l);
-    let b2bar = virial_sum(n, &x, &sigma_ij, 3, &b2);
+    let b2bar = virial_sum(n, x, &c.sigma_ij, 3, &b2);
     let b3 = delta_b3_ij(n, c, t, l, d, &sigma);
-    let b3bar = virial_sum(n, &x, &sigma_ij, 6, &b3);
-    energy(
-        o,
-        t,
-        density,
-        density * mean_cube(n, &x, &sigma),
-        b2bar,
-        b3bar,
-    )
+    let b3bar = virial_sum(n, x, &c.sigma_ij, 6, &b3);
+    energy(&o, t, density, density * mean_cube(n, x, &sigma), b2bar, b3bar)
 }

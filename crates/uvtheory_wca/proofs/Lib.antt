@@ -1,2 +1,3 @@
--- Laws for the lengths.
+-- The laws of the tables of pairs.
 pub mod Lengths
+pub mod Sizes

@@ -1,14 +1,11 @@
 // uvtheory/eos/wca/hard_sphere.rs: diameters and lengths by Weeks, Chandler and Andersen.
-ghost use Rattle.std.specs.Prelude.{◌≡◌, ◌≤◌, ◌<◌};
-ghost use Rattle.arithmetic.specs.Doubles.{guarded};
-ghost use Rattle.uvtheory.specs.Rows.{row, matrix, Matrix};
-ghost use Rattle.uvtheory.specs.Held.{Symmetric};
-ghost use Rattle.uvtheory_wca.specs.Lengths.{ComponentLengthsOf};
+ghost use Rattle.std.specs.Prelude.{◌≡◌, ◌+◌, ◌*◌, ◌≤◌, ◌<◌};
+ghost use Rattle.uvtheory.specs.Rows.{doubles, row, matrix, Matrix, Symmetric};
 ghost use Rattle.uvtheory.specs.Wca.HardSphere as F;
+ghost use Rattle.uvtheory_wca.specs.Lengths.{ComponentLengthsOf};
 
-use elementary::exponential::powf;
-use operations::basic::div;
-use operations::root::sqrt;
+use num_dual::dual_num::DualNum;
+use uvtheory::arrays::{each, symmetric};
 use uvtheory::consts::PI;
 use uvtheory::parameters::{Combined, Mixture};
 
@@ -56,149 +53,139 @@ pub const WCA_CONSTANTS_ETA_B_UVB3: [[f64; 2]; 3] = [
 ];
 
 // The place of the potential's minimum.
-pub fn rm_of(rep: f64, att: f64) -> f64
-    ensures { result ≡ F.rm_of guarded rep att }
+#[tactic(auto, unfolding(uvtheory::specs::Wca::HardSphere::rm_of))]
+pub fn rm_of<D: DualNum>(rep: D, att: D) -> D
+    ensures { result ≡ F.rm_of D.arithmetic rep att }
 {
-    powf(div(rep, att), div(1.0, rep - att))
+    (rep / att).powf(D::from(1.0) / (rep - att))
 }
 
 // The diameter of a component, by its reduced temperature t.
-pub fn diameter_of(t: f64, rep: f64, rm: f64, sigma: f64) -> f64
-    ensures { result ≡ F.diameter_of guarded t rep rm sigma }
+#[tactic(auto, unfolding(uvtheory::specs::Wca::HardSphere::diameter_of))]
+pub fn diameter_of<D: DualNum>(t: D, rep: D, rm: D, sigma: D) -> D
+    ensures { result ≡ F.diameter_of D.arithmetic t rep rm sigma }
 {
-    let c = powf(div(rep, 6.0), div(-rep, 12.0 - 2.0 * rep)) - 1.0;
-    div(1.0, powf(sqrt(t) * c + 1.0, div(2.0, rep))) * rm * sigma
+    let one = D::from(1.0);
+    let two = D::from(2.0);
+    let c = (rep / D::from(6.0)).powf(-rep / (D::from(12.0) - two * rep)) - one;
+    one / (t.sqrt() * c + one).powf(two / rep) * rm * sigma
 }
 
 // A coefficient by its row of WCA_CONSTANTS_Q.
-pub fn coefficient_q(c: [f64; 4], nu: f64) -> f64
-    ensures { result ≡ F.coefficient_q guarded (row c) nu }
+#[tactic(auto, unfolding(uvtheory::specs::Wca::HardSphere::coefficient_q))]
+pub fn coefficient_q<D: DualNum>(c: &[f64; 4], nu: D) -> D
+    ensures { result ≡ F.coefficient_q D.arithmetic (doubles c.now) nu }
 {
-    let s = nu - 7.0;
-    s * c[1] + s * s * c[2] + s * s * s * c[3] + c[0]
+    let s = nu - D::from(7.0);
+    s * D::from(c[1]) + s.powi(2) * D::from(c[2]) + s.powi(3) * D::from(c[3]) + D::from(c[0])
 }
 
 // What the power of dimensionless_diameter_q_wca is taken of.
-fn polynomial_q(t_x: f64, nu: f64, n: f64) -> f64
-    ensures { result ≡ F.polynomial_q guarded t_x nu n }
+#[tactic(auto, unfolding(uvtheory::specs::Wca::HardSphere::polynomial_q))]
+fn polynomial_q<D: DualNum>(t_x: D, nu: D, n: D) -> D
+    ensures { result ≡ F.polynomial_q D.arithmetic t_x nu n }
 {
-    let c = WCA_CONSTANTS_Q;
-    powf(t_x, 2.0) * coefficient_q(c[2], nu)
-        + powf(t_x, div(3.0, 2.0)) * coefficient_q(c[1], nu)
-        + t_x * ((nu - 7.0) * c[0][1] + c[0][0])
-        + powf(t_x, div(1.0, 2.0)) * sqrt(div(nu * 2.0 * PI, n))
-        + 1.0
+    let one = D::from(1.0);
+    let two = D::from(2.0);
+    let c = &WCA_CONSTANTS_Q;
+    t_x.powf(two) * coefficient_q(&c[2], nu)
+        + t_x.powf(D::from(3.0) / two) * coefficient_q(&c[1], nu)
+        + t_x * ((nu - D::from(7.0)) * D::from(c[0][1]) + D::from(c[0][0]))
+        + t_x.powf(one / two) * (nu * two * D::from(PI) / n).sqrt()
+        + one
 }
 
 // By the place rs of the minimum of nu and n.
-pub fn q_of(t_x: f64, nu: f64, n: f64, rs: f64) -> f64
-    ensures { result ≡ F.q_of guarded t_x nu n rs }
+#[tactic(auto, unfolding(uvtheory::specs::Wca::HardSphere::q_of))]
+pub fn q_of<D: DualNum>(t_x: D, nu: D, n: D, rs: D) -> D
+    ensures { result ≡ F.q_of D.arithmetic t_x nu n rs }
 {
-    powf(polynomial_q(t_x, nu, n), -div(1.0, nu * 2.0)) * rs
+    polynomial_q(t_x, nu, n).powf(-(D::from(1.0) / (nu * D::from(2.0)))) * rs
 }
 
 // The place of the minimum, the diameter and the length of each component.
 #[derive(Clone, Copy)]
-pub struct ComponentLengths {
-    pub rm: [f64; 8],
-    pub d: [f64; 8],
-    pub length: [f64; 8],
+pub struct ComponentLengths<D> {
+    pub rm: [D; 8],
+    pub d: [D; 8],
+    pub length: [D; 8],
 }
 
-pub fn component_lengths(m: Mixture, temperature: f64) -> ComponentLengths
-    requires { m.n ≤ 8 }
-    ensures { ComponentLengthsOf m temperature result }
+pub fn component_lengths<D: DualNum>(m: &Mixture, temperature: D) -> ComponentLengths<D>
+    requires { m.now.n ≤ 8 }
+    ensures { ComponentLengthsOf D.arithmetic m.now temperature result }
 {
-    let n = m.n;
-    let rep = m.rep;
-    let att = m.att;
-    let sigma = m.sigma;
-    let epsilon_k = m.epsilon_k;
-    let mut rms = [0.0; 8];
-    let mut ds = [0.0; 8];
-    let mut lengths = [0.0; 8];
-    let mut i = 0;
-    while i < n {
-        let rm = rm_of(rep[i], att[i]);
-        let d = diameter_of(div(temperature, epsilon_k[i]), rep[i], rm, sigma[i]);
-        rms[i] = rm;
-        ds[i] = d;
-        lengths[i] = -d + rm * sigma[i];
-        i += 1;
-    }
-    ComponentLengths {
-        rm: rms,
-        d: ds,
-        length: lengths,
-    }
+    let rm = each(
+        m.n,
+        |i: usize| -> D
+            requires { i < 8 }
+            ensures { result ≡ F.rm_of D.arithmetic (D.arithmetic.constant (doubles m.entry.now.rep i)) (D.arithmetic.constant (doubles m.entry.now.att i)) }
+        { rm_of(D::from(m.rep[i]), D::from(m.att[i])) },
+    );
+    let d = each(
+        m.n,
+        |i: usize| -> D
+            requires { i < 8 }
+            ensures { result ≡ F.diameter_of D.arithmetic (D.arithmetic.div temperature (D.arithmetic.constant (doubles m.entry.now.epsilon_k i))) (D.arithmetic.constant (doubles m.entry.now.rep i)) (row D.arithmetic rm i) (D.arithmetic.constant (doubles m.entry.now.sigma i)) }
+        {
+            diameter_of(
+                temperature / D::from(m.epsilon_k[i]),
+                D::from(m.rep[i]),
+                rm[i],
+                D::from(m.sigma[i]),
+            )
+        },
+    );
+    let length = each(
+        m.n,
+        |i: usize| -> D
+            requires { i < 8 }
+            ensures { result ≡ D.arithmetic.add (D.arithmetic.neg (row D.arithmetic d i)) (D.arithmetic.mul (row D.arithmetic rm i) (D.arithmetic.constant (doubles m.entry.now.sigma i))) }
+        { -d[i] + rm[i] * D::from(m.sigma[i]) },
+    );
+    ComponentLengths { rm, d, length }
 }
 
 // The dimensionless tau of a pair.
-pub fn tau(li: f64, lj: f64, sigma_ij: f64) -> f64
-    ensures { result ≡ F.tau guarded li lj sigma_ij }
+#[tactic(auto, unfolding(uvtheory::specs::Wca::HardSphere::tau))]
+pub fn tau<D: DualNum>(li: D, lj: D, sigma_ij: D) -> D
+    ensures { result ≡ F.tau D.arithmetic li lj sigma_ij }
 {
-    div(li + lj, sigma_ij) * 0.5
+    (li + lj) / sigma_ij * D::from(0.5)
 }
 
-// The place of the minimum and q of a pair, and of all pairs.
+// The places of the minima and q of all pairs.
 #[derive(Clone, Copy)]
-pub struct PairLengths {
-    pub rm: f64,
-    pub q: f64,
+pub struct LengthTables<D> {
+    pub rm: [D; 64],
+    pub q: [D; 64],
 }
 
-#[derive(Clone, Copy)]
-pub struct LengthTables {
-    pub rm: [f64; 64],
-    pub q: [f64; 64],
-}
-
-// Of the pair (i, j), or what was worked for (j, i).
-fn pair_lengths_at(
-    i: usize,
-    j: usize,
-    t: f64,
-    eps_k: f64,
-    rep: f64,
-    att: f64,
-    worked: PairLengths,
-) -> PairLengths
-    requires { j < i → (worked.rm ≡ F.rm_of guarded rep att) × (worked.q ≡ F.dimensionless_diameter_q_wca guarded (guarded.div t eps_k) rep att) }
-    ensures { (result.rm ≡ F.rm_of guarded rep att) × (result.q ≡ F.dimensionless_diameter_q_wca guarded (guarded.div t eps_k) rep att) }
+#[tactic(auto, using(crate::proofs::Lengths::pair_fits))]
+pub fn pair_lengths<D: DualNum>(n: usize, c: &Combined<D>, t: D) -> LengthTables<D>
+    requires { (n ≤ 8) × Symmetric D.arithmetic n c.now.rep_ij × Symmetric D.arithmetic n c.now.att_ij × Symmetric D.arithmetic n c.now.eps_k_ij }
+    ensures { Matrix D.arithmetic n result.rm (λ i j. F.rm_of D.arithmetic (matrix D.arithmetic n c.now.rep_ij i j) (matrix D.arithmetic n c.now.att_ij i j))
+        × Matrix D.arithmetic n result.q (λ i j. F.dimensionless_diameter_q_wca D.arithmetic (D.arithmetic.div t (matrix D.arithmetic n c.now.eps_k_ij i j)) (matrix D.arithmetic n c.now.rep_ij i j) (matrix D.arithmetic n c.now.att_ij i j)) }
 {
-    if j < i {
-        return worked;
-    }
-    let rm = rm_of(rep, att);
-    PairLengths {
-        rm,
-        q: q_of(div(t, eps_k), rep, att, rm),
-    }
-}
-
-// Of all pairs: each is worked once, for i up to j, and copied.
-pub fn pair_lengths(n: usize, c: Combined, t: f64) -> LengthTables
-    requires { (n ≤ 8) × Symmetric n c.rep_ij × Symmetric n c.att_ij × Symmetric n c.eps_k_ij }
-    ensures { Matrix n result.rm (λ i j. F.rm_of guarded (matrix n c.rep_ij i j) (matrix n c.att_ij i j))
-        × Matrix n result.q (λ i j. F.dimensionless_diameter_q_wca guarded (guarded.div t (matrix n c.eps_k_ij i j)) (matrix n c.rep_ij i j) (matrix n c.att_ij i j)) }
-{
-    let rep_ij = c.rep_ij;
-    let att_ij = c.att_ij;
-    let eps_k_ij = c.eps_k_ij;
-    let mut rm = [0.0; 64];
-    let mut q = [0.0; 64];
-    let mut k = 0;
-    while k < n * n {
-        let i = k / n;
-        let j = k % n;
-        let worked = PairLengths {
-            rm: rm[j * n + i],
-            q: q[j * n + i],
-        };
-        let l = pair_lengths_at(i, j, t, eps_k_ij[k], rep_ij[k], att_ij[k], worked);
-        rm[k] = l.rm;
-        q[k] = l.q;
-        k += 1;
-    }
+    let rm = symmetric(
+        n,
+        |i: usize, j: usize| -> D
+            requires { i * n + j < 64 }
+            ensures { result ≡ F.rm_of D.arithmetic (matrix D.arithmetic n c.entry.now.rep_ij i j) (matrix D.arithmetic n c.entry.now.att_ij i j) }
+        {
+            let k = i * n + j;
+            rm_of(c.rep_ij[k], c.att_ij[k])
+        },
+    );
+    let q = symmetric(
+        n,
+        |i: usize, j: usize| -> D
+            requires { i * n + j < 64 }
+            ensures { result ≡ F.q_of D.arithmetic (D.arithmetic.div t (matrix D.arithmetic n c.entry.now.eps_k_ij i j)) (matrix D.arithmetic n c.entry.now.rep_ij i j) (matrix D.arithmetic n c.entry.now.att_ij i j) (matrix D.arithmetic n rm i j) }
+        {
+            let k = i * n + j;
+            q_of(t / c.eps_k_ij[k], c.rep_ij[k], c.att_ij[k], rm[k])
+        },
+    );
     LengthTables { rm, q }
 }

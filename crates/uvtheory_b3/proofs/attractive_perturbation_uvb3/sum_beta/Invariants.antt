@@ -1,12 +1,7 @@
--- The loop's invariant: after m turns the sum has m terms after the first, and the power is beta^(m + 1).
-use Prim.Native.Nat.{suc, ◌-◌, ◌≤◌}
-use mathlib.Core.Path.{◌≡◌}
-use Rattle.arithmetic.specs.Doubles.{guarded}
+-- After m turns the sum has m terms after the first, and the power is beta^(m + 1).
+use Rattle.std.proofs.Common.{◌≡◌, ◌+◌, ◌≤◌}
 use Rattle.uvtheory.specs.Wca.AttractivePerturbationUvb3 as F
 use Rattle.uvtheory_b3.proofs.attractive_perturbation_uvb3.sum_beta.Given as goal
 
 abbrev pub invariant-loop-m : goal.invariant-loop-m
-invariant-loop-m l = (l.m ≤ 14) × (l.sum ≡ F.sum_beta guarded l.m l.beta) × (l.power ≡ guarded.powi l.beta (suc l.m))
-
-abbrev pub decreases-loop-m : goal.decreases-loop-m
-decreases-loop-m l = 14 - l.m
+invariant-loop-m g l = let A = g.D.DualNum.arithmetic in (l.m ≤ 14) × (l.sum ≡ F.sum_beta A l.m l.beta) × (l.power ≡ A.powi l.beta (l.m + 1))

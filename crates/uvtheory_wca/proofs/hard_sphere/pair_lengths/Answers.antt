@@ -1,101 +1,25 @@
-use Prim.Native.Nat.{◌<◌, ◌*◌}
-use mathlib.Core.Path.{refl, ◌∙◌}
-use native.Mathlib.Omega.{arith}
-use lib.Ieee.{nan}
-use Rattle.uvtheory.proofs.Loops.{at_pair, pair_within, square_le, one_more, mirror, square_fits}
-use Rattle.uvtheory_wca.proofs.hard_sphere.pair_lengths.Invariants.{minimum, diameter}
+use Rattle.std.proofs.Common.{◌≡◌, ℕ, ◌∙◌, ap, ap₂}
+use Rattle.uvtheory.specs.Rows.{missing, matrix}
+use Rattle.uvtheory.specs.Wca.HardSphere.{rm_of, q_of}
+use Rattle.uvtheory.proofs.Sums.{matrix_at}
+use Rattle.uvtheory_wca.proofs.Lengths.{pair_fits, flipped, worked, worked_symmetric}
 use Rattle.uvtheory_wca.proofs.hard_sphere.pair_lengths.Goals as goal
 
-pub loop-k-init : goal.loop-k-init
-loop-k-init c = (omega arith, (refl, λ i h. absurd (omega arith)), (refl, λ i h. absurd (omega arith)))
-
-pub pair_lengths_at-l-requires : goal.pair_lengths_at-l-requires
-pair_lengths_at-l-requires c b =
-    let l = c.loop-k in
-    let n = c.args.n in
-    let h : l.k < n * n = omega arith in (
-      mirror nan (minimum n c.args.t c.args.c.rep_ij c.args.c.att_ij c.args.c.eps_k_ij) n l.k l.rm h b l.invariant.1.1 ∙ rw (c.requires.1 l.k h b, c.requires.2 l.k h b),
-      mirror nan (diameter n c.args.t c.args.c.rep_ij c.args.c.att_ij c.args.c.eps_k_ij) n l.k l.q h b l.invariant.2.1 ∙ rw (c.requires.1 l.k h b, c.requires.2 l.k h b, c.requires.3 l.k h b),
-    )
-
-pub loop-k-preserved : goal.loop-k-preserved
-loop-k-preserved c =
-    let l = c.loop-k in
-    let n = c.args.n in
-    let h : l.k < n * n = omega arith in (
-      omega arith,
-      one_more nan n l.k l.rm (minimum n c.args.t c.args.c.rep_ij c.args.c.att_ij c.args.c.eps_k_ij) _ (omega (arith, square_le n c.requires.0)) l.invariant.1 (c.pair_lengths_at-l.ensures.0 ∙ rw (at_pair n l.k)),
-      one_more nan n l.k l.q (diameter n c.args.t c.args.c.rep_ij c.args.c.att_ij c.args.c.eps_k_ij) _ (omega (arith, square_le n c.requires.0)) l.invariant.2 (c.pair_lengths_at-l.ensures.1 ∙ rw (at_pair n l.k)),
-    )
-
 pub returns : goal.returns
-returns c = ((λ k h. c.loop-k.invariant.1.1 k (omega arith)), (λ k h. c.loop-k.invariant.2.1 k (omega arith)))
-
-pub overflow_mul-n : goal.overflow_mul-n
-overflow_mul-n c = square_fits c.args.n c.requires.0
-
-pub nonzero_div-i : goal.nonzero_div-i
-nonzero_div-i c = (pair_within c.args.n c.loop-k.k c.requires.0 (omega arith)).some
-
-pub nonzero_rem-j : goal.nonzero_rem-j
-nonzero_rem-j c = (pair_within c.args.n c.loop-k.k c.requires.0 (omega arith)).some
-
-pub overflow_mul-worked : goal.overflow_mul-worked
-overflow_mul-worked c = (pair_within c.args.n c.loop-k.k c.requires.0 (omega arith)).mirror_row
-
-pub overflow_add-worked : goal.overflow_add-worked
-overflow_add-worked c = (pair_within c.args.n c.loop-k.k c.requires.0 (omega arith)).mirror_place
-
-pub offset_bounds-rm-j : goal.offset_bounds-rm-j
-offset_bounds-rm-j c = (pair_within c.args.n c.loop-k.k c.requires.0 (omega arith)).mirror.fits
-
-pub bounds-rm-j : goal.bounds-rm-j
-bounds-rm-j c = (pair_within c.args.n c.loop-k.k c.requires.0 (omega arith)).mirror.below
-
-pub overflow_mul-worked-in-loop-k : goal.overflow_mul-worked-in-loop-k
-overflow_mul-worked-in-loop-k c = (pair_within c.args.n c.loop-k.k c.requires.0 (omega arith)).mirror_row
-
-pub overflow_add-worked-in-loop-k : goal.overflow_add-worked-in-loop-k
-overflow_add-worked-in-loop-k c = (pair_within c.args.n c.loop-k.k c.requires.0 (omega arith)).mirror_place
-
-pub offset_bounds-q-j : goal.offset_bounds-q-j
-offset_bounds-q-j c = (pair_within c.args.n c.loop-k.k c.requires.0 (omega arith)).mirror.fits
-
-pub bounds-q-j : goal.bounds-q-j
-bounds-q-j c = (pair_within c.args.n c.loop-k.k c.requires.0 (omega arith)).mirror.below
-
-pub offset_bounds-eps_k_ij-k : goal.offset_bounds-eps_k_ij-k
-offset_bounds-eps_k_ij-k c = (pair_within c.args.n c.loop-k.k c.requires.0 (omega arith)).pair.fits
-
-pub bounds-eps_k_ij-k : goal.bounds-eps_k_ij-k
-bounds-eps_k_ij-k c = (pair_within c.args.n c.loop-k.k c.requires.0 (omega arith)).pair.below
-
-pub offset_bounds-rep_ij-k : goal.offset_bounds-rep_ij-k
-offset_bounds-rep_ij-k c = (pair_within c.args.n c.loop-k.k c.requires.0 (omega arith)).pair.fits
-
-pub bounds-rep_ij-k : goal.bounds-rep_ij-k
-bounds-rep_ij-k c = (pair_within c.args.n c.loop-k.k c.requires.0 (omega arith)).pair.below
-
-pub offset_bounds-att_ij-k : goal.offset_bounds-att_ij-k
-offset_bounds-att_ij-k c = (pair_within c.args.n c.loop-k.k c.requires.0 (omega arith)).pair.fits
-
-pub bounds-att_ij-k : goal.bounds-att_ij-k
-bounds-att_ij-k c = (pair_within c.args.n c.loop-k.k c.requires.0 (omega arith)).pair.below
-
-pub offset_bounds-rm-k : goal.offset_bounds-rm-k
-offset_bounds-rm-k c = (pair_within c.args.n c.loop-k.k c.requires.0 (omega arith)).pair.fits
-
-pub bounds-rm-k : goal.bounds-rm-k
-bounds-rm-k c = (pair_within c.args.n c.loop-k.k c.requires.0 (omega arith)).pair.below
-
-pub offset_bounds-q-k : goal.offset_bounds-q-k
-offset_bounds-q-k c = (pair_within c.args.n c.loop-k.k c.requires.0 (omega arith)).pair.fits
-
-pub bounds-q-k : goal.bounds-q-k
-bounds-q-k c = (pair_within c.args.n c.loop-k.k c.requires.0 (omega arith)).pair.below
-
-pub overflow_add-k : goal.overflow_add-k
-overflow_add-k c = (pair_within c.args.n c.loop-k.k c.requires.0 (omega arith)).pair.next
-
-pub loop-k-smaller : goal.loop-k-smaller
-loop-k-smaller c = (pair_within c.args.n c.loop-k.k c.requires.0 (omega arith)).less
+returns g c =
+    let A = g.D.DualNum.arithmetic in
+    let none = missing A in
+    let n = c.args.n in
+    let a = c.args.c.now in
+    let t = c.args.t in
+    let rep = flipped none n a.rep_ij c.requires.1 in
+    let att = flipped none n a.att_ij c.requires.2 in
+    let eps = flipped none n a.eps_k_ij c.requires.3 in
+    let rm_table = c.symmetric-rm.result in
+    let q_table = c.symmetric-q.result in
+    let minimum : ℕ → ℕ → _ = λ i j. rm_of A (matrix A n a.rep_ij i j) (matrix A n a.att_ij i j) in
+    let diameter : ℕ → ℕ → _ = λ i j. q_of A (A.div t (matrix A n a.eps_k_ij i j)) (matrix A n a.rep_ij i j) (matrix A n a.att_ij i j) (matrix A n rm_table i j) in
+    let rm = worked none n rm_table minimum _ c.symmetric-rm.ensures (λ i j r e. e) (λ k l b. ap₂ (rm_of A) (rep k l b) (att k l b)) in
+    let flip = flipped none n rm_table (worked_symmetric none n rm_table minimum _ c.symmetric-rm.ensures (λ i j r e. e)) in
+    let q = worked none n q_table diameter _ c.symmetric-q.ensures (λ i j r e. e) (λ k l b. rw (rep k l b, att k l b, eps k l b, flip k l b)) in
+    (rm, λ k l. q k l ∙ rw (matrix_at none n rm_table minimum rm k l))

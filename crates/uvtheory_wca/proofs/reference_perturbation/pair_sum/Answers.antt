@@ -1,66 +1,21 @@
-use Prim.Native.Nat.{◌*◌}
-use mathlib.Core.Path.{◌≡◌, refl}
-use native.Mathlib.Omega.{arith}
-use Rattle.arithmetic.specs.Arithmetic.{sum_by}
-use Rattle.arithmetic.specs.Doubles.{guarded}
-use Rattle.uvtheory.proofs.Loops.{sum_step, at_pair, pair_within, square_fits}
+use Rattle.std.proofs.Common.{◌≡◌, ◌*◌, ◌^◌, ◌<◌, ◌≤◌, ◌∙◌, sym, refl, ap₂, mul-le-mul, arith}
+use Rattle.uvtheory.proofs.Loops.{at_pair, square_le}
 use Rattle.uvtheory_wca.proofs.reference_perturbation.pair_sum.Goals as goal
 
-pub loop-k-init : goal.loop-k-init
-unfolding sum_by
-loop-k-init c = (omega arith, refl)
+pub offset_bounds-q-k : goal.offset_bounds-q-k
+offset_bounds-q-k g c =
+    let few = square_le c.args.n c.requires in
+    let inside : c.loop-k.k ≤ 64 = omega (arith, few) in
+    let bytes = mul-le-mul inside g.met.D.DualNum.small in
+    omega (arith, bytes)
 
 pub loop-k-preserved : goal.loop-k-preserved
-loop-k-preserved c = (
-  omega arith,
-  rw (
-    c.loop-k.invariant.1,
-    sum_step guarded (λ n f. refl),
-    c.term_of-sum.ensures,
-    c.component_of-j.ensures,
-    c.component_of-i.ensures,
-    at_pair,
-  ),
-)
-
-pub returns : goal.returns
-returns c = let e : c.loop-k.k ≡ c.args.n * c.args.n = omega arith in rw e at c.loop-k.invariant.1
-
-pub overflow_mul-n : goal.overflow_mul-n
-overflow_mul-n c = square_fits c.args.n c.requires
-
-pub nonzero_div-k : goal.nonzero_div-k
-nonzero_div-k c = (pair_within c.args.n c.loop-k.k c.requires (omega arith)).some
-
-pub component_of-i-requires : goal.component_of-i-requires
-component_of-i-requires c = (pair_within c.args.n c.loop-k.k c.requires (omega arith)).row.below
-
-pub nonzero_rem-k : goal.nonzero_rem-k
-nonzero_rem-k c = (pair_within c.args.n c.loop-k.k c.requires (omega arith)).some
-
-pub component_of-j-requires : goal.component_of-j-requires
-component_of-j-requires c = (pair_within c.args.n c.loop-k.k c.requires (omega arith)).column.below
-
-pub offset_bounds-q-k : goal.offset_bounds-q-k
-offset_bounds-q-k c = (pair_within c.args.n c.loop-k.k c.requires (omega arith)).pair.fits
-
-pub bounds-q-k : goal.bounds-q-k
-bounds-q-k c = (pair_within c.args.n c.loop-k.k c.requires (omega arith)).pair.below
-
-pub offset_bounds-sigma_ij-k : goal.offset_bounds-sigma_ij-k
-offset_bounds-sigma_ij-k c = (pair_within c.args.n c.loop-k.k c.requires (omega arith)).pair.fits
-
-pub bounds-sigma_ij-k : goal.bounds-sigma_ij-k
-bounds-sigma_ij-k c = (pair_within c.args.n c.loop-k.k c.requires (omega arith)).pair.below
-
-pub offset_bounds-rep_ij-k : goal.offset_bounds-rep_ij-k
-offset_bounds-rep_ij-k c = (pair_within c.args.n c.loop-k.k c.requires (omega arith)).pair.fits
-
-pub bounds-rep_ij-k : goal.bounds-rep_ij-k
-bounds-rep_ij-k c = (pair_within c.args.n c.loop-k.k c.requires (omega arith)).pair.below
-
-pub overflow_add-k : goal.overflow_add-k
-overflow_add-k c = (pair_within c.args.n c.loop-k.k c.requires (omega arith)).pair.next
-
-pub loop-k-smaller : goal.loop-k-smaller
-loop-k-smaller c = (pair_within c.args.n c.loop-k.k c.requires (omega arith)).less
+loop-k-preserved g c =
+    let number = g.met.D.DualNum in
+    let k = c.loop-k.k in
+    (
+      omega arith,
+      number.add_is _ _ _ c.add-sum.ensures
+      ∙ ap₂ g.D.DualNum.arithmetic.add c.loop-k.invariant.1 (c.term_of.ensures ∙ simp (c.component_of-i.ensures, c.component_of-j.ensures, at_pair c.args.n k) refl)
+      ∙ sym (number.sum_step k _),
+    )

@@ -1,13 +1,11 @@
-use Prim.Native.Nat.{◌≤◌, ◌-◌, ◌*◌, ◌/◌, ◌%◌}
-use mathlib.Core.Path.{◌≡◌}
-use Rattle.arithmetic.specs.Doubles.{guarded}
+use Rattle.std.proofs.Common.{◌≡◌, ◌*◌, ◌/◌, ◌%◌, ◌≤◌}
 use Rattle.uvtheory.specs.Tables.{table}
 use Rattle.uvtheory.specs.Rows.{row, matrix}
 use Rattle.uvtheory.specs.Wca.ReferencePerturbation as F
 use Rattle.uvtheory_wca.proofs.reference_perturbation.pair_sum.Given as goal
 
 abbrev pub invariant-loop-k : goal.invariant-loop-k
-invariant-loop-k s = (s.k ≤ s.n * s.n) × (s.sum ≡ guarded.sum s.k (λ l. F.term_ij guarded (table s.ta) (table s.tb) (row s.x) (row s.rm) (row s.d) (row s.length) (matrix s.n s.q) (matrix s.n s.sigma_ij) (matrix s.n s.rep_ij) s.eta (l / s.n) (l % s.n)))
-
-abbrev pub decreases-loop-k : goal.decreases-loop-k
-decreases-loop-k l = l.n * l.n - l.k
+invariant-loop-k g l =
+    let A = g.D.DualNum.arithmetic in
+    (l.k ≤ l.n * l.n)
+    × (l.sum ≡ A.sum l.k (λ k. F.term_ij A (table l.ta) (table l.tb) (row A l.x) (row A l.r.rm) (row A l.r.d) (row A l.r.length) (matrix A l.n l.q) (matrix A l.n l.c.sigma_ij) (matrix A l.n l.c.rep_ij) l.eta (k / l.n) (k % l.n)))

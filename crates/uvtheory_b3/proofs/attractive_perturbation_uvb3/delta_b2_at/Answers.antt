@@ -1,7 +1,0 @@
-use Rattle.uvtheory_b3.proofs.attractive_perturbation_uvb3.delta_b2_at.Goals as goal
-
-pub returns-then-j-i : goal.returns-then-j-i
-returns-then-j-i c = c.requires c.if-j-i.true
-
-pub returns : goal.returns
-returns c = rw (c.delta_b2.ensures, c.div.ensures)

@@ -1,8 +1,0 @@
-use mathlib.Core.Path.{refl}
-use Rattle.uvtheory.specs.Wca.AttractivePerturbation as F
-use Rattle.arithmetic.specs.Arithmetic.{power_by}
-use Rattle.uvtheory_wca.proofs.attractive_perturbation.y_eff.Goals as goal
-
-pub returns : goal.returns
-unfolding F.y_eff_of power_by
-returns c = simp (c.exp.ensures, c.beta_eff.ensures, c.div-c0.ensures) refl
