@@ -1,3 +1,2 @@
 -- The laws of the tables of pairs.
 pub mod Lengths
-pub mod Sizes

@@ -5,7 +5,7 @@ use Rattle.uvtheory.specs.Wca.HardSphere.{diameter_wca}
 use Rattle.uvtheory.proofs.Loops.{adds}
 use Rattle.uvtheory.proofs.Sums.{spherical_of}
 use Rattle.uvtheory.proofs.Combined.{rep_symmetric, att_symmetric, epsilon_symmetric}
-use Rattle.uvtheory_wca.proofs.Sizes.{rows_fit, tables_fit, combined_fits}
+use Rattle.uvtheory.proofs.Sizes.{rows_fit, tables_fit, combined_fits}
 use Rattle.uvtheory_wca.proofs.Lengths.{lengths_are}
 use Rattle.uvtheory_b3.proofs.residual_helmholtz_energy_contributions_b3.Goals as goal
 

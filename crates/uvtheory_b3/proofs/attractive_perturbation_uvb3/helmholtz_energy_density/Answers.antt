@@ -6,7 +6,7 @@ use Rattle.uvtheory.specs.Wca.AttractivePerturbationUvb3 as F
 use Rattle.uvtheory.proofs.Loops.{adds, row_of, column_of}
 use Rattle.uvtheory.proofs.Combined.{rep_symmetric, epsilon_symmetric}
 use Rattle.uvtheory.proofs.Sums.{matrix_at, rep_at, epsilon_at, one_fluid_held, virial_sum_held}
-use Rattle.uvtheory_wca.proofs.Sizes.{rows_fit, tables_fit, combined_fits}
+use Rattle.uvtheory.proofs.Sizes.{rows_fit, tables_fit, combined_fits}
 use Rattle.uvtheory_wca.proofs.Lengths.{rm_symmetric, q_symmetric}
 use Rattle.uvtheory_b3.proofs.attractive_perturbation_uvb3.helmholtz_energy_density.Goals as goal
 

@@ -6,7 +6,7 @@ use Rattle.uvtheory.specs.Wca.AttractivePerturbation as F
 use Rattle.uvtheory.proofs.Loops.{adds}
 use Rattle.uvtheory.proofs.Combined.{rep_symmetric, att_symmetric, epsilon_symmetric}
 use Rattle.uvtheory.proofs.Sums.{matrix_at, rep_at, att_at, epsilon_at, one_fluid_held, virial_sum_held}
-use Rattle.uvtheory_wca.proofs.Sizes.{rows_fit, tables_fit, combined_fits}
+use Rattle.uvtheory.proofs.Sizes.{rows_fit, tables_fit, combined_fits}
 use Rattle.uvtheory_wca.proofs.Lengths.{rm_symmetric, q_symmetric}
 use Rattle.uvtheory_wca.proofs.attractive_perturbation.helmholtz_energy_density.Goals as goal
 
