@@ -45,30 +45,36 @@ pub struct Component<D> {
     pub length: D,
 }
 
+// The values of a pair: q, sigma and rep.
+#[derive(Clone, Copy)]
+pub struct Pair<D> {
+    pub q: D,
+    pub sigma_ij: D,
+    pub rep_ij: D,
+}
+
 #[tactic(auto, unfolding(uvtheory::specs::Wca::ReferencePerturbation::term_of))]
 fn term_of<D: DualNum>(
     ta: &[[f64; 4]; 4],
     tb: &[[f64; 2]; 3],
     i: Component<D>,
     j: Component<D>,
-    q: D,
-    sigma_ij: D,
-    rep_ij: D,
+    ij: Pair<D>,
     eta: D,
 ) -> D
-    ensures { result ≡ F.term_of D.arithmetic (table ta.now) (table tb.now) i.x j.x i.rm j.rm i.d j.d i.length j.length q sigma_ij rep_ij eta }
+    ensures { result ≡ F.term_of D.arithmetic (table ta.now) (table tb.now) i.x j.x i.rm j.rm i.d j.d i.length j.length ij.q ij.sigma_ij ij.rep_ij eta }
 {
     let half = D::from(0.5);
-    let t = tau(i.length, j.length, sigma_ij);
+    let t = tau(i.length, j.length, ij.sigma_ij);
     term(
         i.x,
         j.x,
-        packing_fraction_a(ta, eta, t, rep_ij),
+        packing_fraction_a(ta, eta, t, ij.rep_ij),
         packing_fraction_b(tb, eta, t),
         (i.rm + j.rm) * half,
         (i.d + j.d) * half,
-        q * sigma_ij,
-        sigma_ij,
+        ij.q * ij.sigma_ij,
+        ij.sigma_ij,
     )
 }
 
@@ -81,6 +87,17 @@ fn component_of<D: DualNum>(i: usize, x: &[D; 8], r: &ComponentLengths<D>) -> Co
         rm: r.rm[i],
         d: r.d[i],
         length: r.length[i],
+    }
+}
+
+fn pair_of<D: DualNum>(k: usize, q: &[D; 64], c: &Combined<D>) -> Pair<D>
+    requires { k < 64 }
+    ensures { result ≡ record { q = row D.arithmetic q.now k; sigma_ij = row D.arithmetic c.now.sigma_ij k; rep_ij = row D.arithmetic c.now.rep_ij k } }
+{
+    Pair {
+        q: q[k],
+        sigma_ij: c.sigma_ij[k],
+        rep_ij: c.rep_ij[k],
     }
 }
 
@@ -101,12 +118,9 @@ pub fn pair_sum<D: DualNum>(
 {
     let mut sum = D::from(0.0);
     for k in 0..n * n {
-        let q_ij = q[k];
-        let sigma_ij = c.sigma_ij[k];
-        let rep_ij = c.rep_ij[k];
         let i = component_of(k / n, x, r);
         let j = component_of(k % n, x, r);
-        sum = sum + term_of(ta, tb, i, j, q_ij, sigma_ij, rep_ij, eta);
+        sum = sum + term_of(ta, tb, i, j, pair_of(k, q, c), eta);
     }
     sum
 }
