@@ -80,7 +80,7 @@ pub fn state_of(record: &[u8], h: Header) -> State<f64>
     }
 }
 
-// The case of a record that the checks 2, 5 and 6 pass. A byte that names no perturbation, which check 4 refuses, counts as WCA-B3.
+// The case of a record that the checks 2, 5 and 6 pass.
 #[tactic(auto, unfolding(crate::specs::Record::mixture_of))]
 pub fn case_of(record: &[u8]) -> BoundedCase
     requires { Whole «record».now (header_of «record».now) }
@@ -89,9 +89,7 @@ pub fn case_of(record: &[u8]) -> BoundedCase
     let h = header_of(record);
     let mixture = mixture_of(record, h);
     let state = state_of(record, h);
-    let perturbation = perturbation_of(h.perturbation).unwrap_or(
-        Perturbation::WeeksChandlerAndersenB3,
-    );
+    let perturbation = perturbation_of(h.perturbation);
     BoundedCase {
         case: Case {
             perturbation,

@@ -34,7 +34,7 @@ pub fn header_of(record: &[u8]) -> Header
 }
 
 // The perturbation that a byte names, if there is one.
-pub fn perturbation_of(byte: u8) -> Option<Perturbation>
+pub fn perturbation_named(byte: u8) -> Option<Perturbation>
     ensures { result ≡ cond (is_perturbation byte) (Some (perturbation_of byte)) None }
 {
     match byte {
@@ -43,6 +43,13 @@ pub fn perturbation_of(byte: u8) -> Option<Perturbation>
         2 => Some(Perturbation::WeeksChandlerAndersenB3),
         _ => None,
     }
+}
+
+// The same, where check 4 has passed the byte; any other counts as WCA-B3.
+pub fn perturbation_of(byte: u8) -> Perturbation
+    ensures { result ≡ perturbation_of byte }
+{
+    perturbation_named(byte).unwrap_or(Perturbation::WeeksChandlerAndersenB3)
 }
 
 // How many pairs i below j there are.

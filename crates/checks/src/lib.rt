@@ -9,7 +9,7 @@ ghost use Rattle.checks.specs.Checks.{envelope, first_failing, inside, state, st
 
 use big_endian::big_endian2;
 use case_record::case::BoundedCase;
-use case_record::layout::{header_of, length_of, pairs, perturbation_of};
+use case_record::layout::{header_of, length_of, pairs, perturbation_named};
 use num_dual::double::Double;
 use refusal::Refusal;
 use uvtheory::arrays::constants;
@@ -102,7 +102,7 @@ pub fn envelope(record: &[u8]) -> Result<(), Refusal>
     let h = header_of(record);
     require(h.version == 1, Refusal::Version)?;
     require(
-        perturbation_of(h.perturbation).is_some(),
+        perturbation_named(h.perturbation).is_some(),
         Refusal::Perturbation,
     )?;
     require((1 <= h.n) & (h.n <= 8), Refusal::Components)?;
