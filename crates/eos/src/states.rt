@@ -1,6 +1,7 @@
 // The states that the formulas take: as sent, and as sent with densities that start with slopes.
-ghost use Rattle.std.specs.Prelude.{◌≡◌};
-ghost use Rattle.dual.specs.Rules.{guarded_slopes, plain};
+ghost use Rattle.std.specs.Prelude.{◌≡◌, ◌<◌};
+ghost use Rattle.dual.specs.Rules.{guarded_slopes, plain, start};
+ghost use Rattle.uvtheory.specs.Rows.{doubles};
 ghost use Rattle.uvtheory.specs.Inputs.{state, state_of};
 ghost use Rattle.eos.specs.Slopes as Slopes;
 
@@ -20,7 +21,18 @@ pub fn sent<D: DualNum>(s: &State<f64>) -> State<D>
     }
 }
 
-// As sent, its densities with their slopes: each starts with that of its own fraction.
+// A density, with the slope of its own fraction.
+#[tactic(auto, unfolding(dual::specs::Rules::start))]
+fn start(density: f64, fraction: f64) -> Dual
+    ensures { result ≡ start plain density fraction }
+{
+    Dual {
+        value: density,
+        slope: fraction,
+    }
+}
+
+// As sent, its densities with their slopes.
 pub fn started(s: &State<f64>) -> State<Dual>
     ensures { state_of guarded_slopes result ≡ Slopes.started plain s.now }
 {
@@ -28,9 +40,11 @@ pub fn started(s: &State<f64>) -> State<Dual>
     let x = s.molefracs;
     State {
         temperature: Dual::from(s.temperature),
-        partial_density: each(8, |i| Dual {
-            value: d[i],
-            slope: x[i],
+        partial_density: each(8, |i: usize| -> Dual
+            requires { i < 8 }
+            ensures { result ≡ start plain (doubles d i) (doubles x i) }
+        {
+            start(d[i], x[i])
         }),
         molefracs: constants(&x),
     }
