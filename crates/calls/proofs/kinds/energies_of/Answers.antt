@@ -12,11 +12,11 @@ returns-in_err-require c =
     let e = c.contributions-e.ensures ∙ ap (contributions guarded k.perturbation k.mixture) c.sent.ensures in
     let refused : c.from_residual.result ≡ Err c.in_err-require.field-0.0 = search rules in
     refused
-    ∙ (rw (← c.require.ensures, c.in_err-require.was) at (energies_worked k e (rw (c.are_finite.ensures, c.from-x.ensures, c.from-y.ensures, c.from-z.ensures))))
+    ∙ (rw (← c.require.ensures, c.in_err-require.was) at (energies_worked k e {b = c.are_finite.result} (rw (c.are_finite.ensures, c.from-x.ensures, c.from-y.ensures, c.from-z.ensures))))
 
 pub returns : goal.returns
 returns c =
     let k = c.args.c.case in
     let e = c.contributions-e.ensures ∙ ap (contributions guarded k.perturbation k.mixture) c.sent.ensures in
     rw (c.from-x.ensures, c.from-y.ensures, c.from-z.ensures)
-    (rw (← c.require.ensures, c.in_ok-require.was) at (energies_worked k e (rw (c.are_finite.ensures, c.from-x.ensures, c.from-y.ensures, c.from-z.ensures))))
+    (rw (← c.require.ensures, c.in_ok-require.was) at (energies_worked k e {b = c.are_finite.result} (rw (c.are_finite.ensures, c.from-x.ensures, c.from-y.ensures, c.from-z.ensures))))
