@@ -3,7 +3,7 @@ use mathlib.Core.Path.{◌≡◌, refl}
 use mathlib.Core.List.{List, [], ◌∷◌}
 use Prim.Native.Nat.{ℕ}
 use lib.ListN.{replicate}
-use lib.Ieee.{of_bits, round, add, sub, mul}
+use lib.Ieee.{Float, of_bits, round, add, sub, mul}
 use Rattle.arithmetic.specs.Constants.{bits, zero_d, one}
 use Rattle.arithmetic.specs.Root as Root
 use Rattle.arithmetic.specs.Doubles.{doubles}
@@ -12,7 +12,7 @@ use Rattle.arithmetic.proofs.Rows.{nearest}
 use Rattle.range.specs.Rules.{range, point, zero, ranges}
 use Rattle.range.proofs.Rows as Ranges
 use Rattle.uvtheory.specs.Parameters.{UVTheoryPars, new}
-use Rattle.uvtheory.specs.Rows.{row}
+use Rattle.uvtheory.specs.Rows.{doubles as entries}
 use Rattle.big_endian.specs.Bytes.{big_endian, bytes_of}
 use Rattle.case_record.specs.Layout as Layout
 use Rattle.case_record.specs.Layout.{length_at}
@@ -25,10 +25,10 @@ abbrev mixture : UVTheoryPars Float
 mixture =
     new doubles record {
       n = 2;
-      rep = row (nearest 9 1 ∷ nearest 16 1 ∷ []);
-      att = row (nearest 6 1 ∷ nearest 6 1 ∷ []);
-      sigma = row (nearest 3 1 ∷ nearest 4 1 ∷ []);
-      epsilon_k = row (nearest 100 1 ∷ nearest 400 1 ∷ []);
+      rep = entries (nearest 9 1 ∷ nearest 16 1 ∷ []);
+      att = entries (nearest 6 1 ∷ nearest 6 1 ∷ []);
+      sigma = entries (nearest 3 1 ∷ nearest 4 1 ∷ []);
+      epsilon_k = entries (nearest 100 1 ∷ nearest 400 1 ∷ []);
       k_ij = λ i j. nearest 1 4;
     }
 
