@@ -81,8 +81,7 @@ fn u_fraction_wca<D: DualNum>(rep_x: D, reduced_density: D, t_x: D) -> D
     let c = &CU_WCA;
     let e = (-t_x * D::from(c[5]) * (reduced_density - D::from(c[6])).powi(2)).exp();
     -(-(reduced_density.powi(2) * (one / (rep_x + D::from(c[4])) * D::from(c[3]) + D::from(c[2]))
-        + omega(t_x, e)))
-    .exp()
+        + omega(t_x, e))).exp()
         + one
 }
 
@@ -220,8 +219,7 @@ fn alpha<D: DualNum>(rho_x: D, rep_x: D, t_x: D) -> D
     (-rho_x
         * (one / rep_x)
         * D::from(CU_WCA[0])
-        * (one / t_x.powi(2) * D::from(CU_WCA[1]) + one))
-        .exp()
+        * (one / t_x.powi(2) * D::from(CU_WCA[1]) + one)).exp()
 }
 
 #[tactic(auto, unfolding(uvtheory::specs::Wca::AttractivePerturbationUvb3::energy))]
@@ -323,5 +321,12 @@ pub fn helmholtz_energy_density<D: DualNum>(
     let b2bar = virial_sum(n, x, &c.sigma_ij, 3, &b2);
     let b3 = delta_b3_ij(n, c, t, l, d, &sigma);
     let b3bar = virial_sum(n, x, &c.sigma_ij, 6, &b3);
-    energy(&o, t, density, density * mean_cube(n, x, &sigma), b2bar, b3bar)
+    energy(
+        &o,
+        t,
+        density,
+        density * mean_cube(n, x, &sigma),
+        b2bar,
+        b3bar,
+    )
 }

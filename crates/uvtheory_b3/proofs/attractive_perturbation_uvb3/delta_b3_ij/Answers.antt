@@ -1,6 +1,6 @@
-use Rattle.std.proofs.Common.{◌≡◌, ℕ, ◌*◌, ◌/◌, ◌%◌, ◌^◌, ◌<◌, ◌≤◌, ◌∙◌, sym, subst, mul-le-mul, arith, length, length-set}
+use Rattle.std.proofs.Common.{◌≡◌, ℕ, ◌/◌, ◌%◌, ◌≤◌, ◌∙◌, sym, subst, mul-le-mul, arith, length, length-set}
 use Rattle.uvtheory.specs.Literals as N
-use Rattle.uvtheory.specs.Rows.{missing, row, matrix}
+use Rattle.uvtheory.specs.Rows.{missing, row}
 use Rattle.uvtheory.specs.Wca.AttractivePerturbationUvb3 as F
 use Rattle.uvtheory.proofs.Loops.{at_pair, square_le, row_set}
 use Rattle.uvtheory_b3.proofs.attractive_perturbation_uvb3.delta_b3_ij.Goals as goal
