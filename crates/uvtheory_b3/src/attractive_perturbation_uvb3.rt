@@ -81,8 +81,7 @@ fn u_fraction_wca<D: DualNum>(rep_x: D, reduced_density: D, t_x: D) -> D
     let c = &CU_WCA;
     let e = (-t_x * D::from(c[5]) * (reduced_density - D::from(c[6])).powi(2)).exp();
     -(-(reduced_density.powi(2) * (one / (rep_x + D::from(c[4])) * D::from(c[3]) + D::from(c[2]))
-        + omega(t_x, e)))
-    .exp()
+        + omega(t_x, e))).exp()
         + one
 }
 
@@ -220,8 +219,7 @@ fn alpha<D: DualNum>(rho_x: D, rep_x: D, t_x: D) -> D
     (-rho_x
         * (one / rep_x)
         * D::from(CU_WCA[0])
-        * (one / t_x.powi(2) * D::from(CU_WCA[1]) + one))
-        .exp()
+        * (one / t_x.powi(2) * D::from(CU_WCA[1]) + one)).exp()
 }
 
 #[tactic(auto, unfolding(uvtheory::specs::Wca::AttractivePerturbationUvb3::energy))]
@@ -264,6 +262,22 @@ fn delta_b2_ij<D: DualNum>(n: usize, c: &Combined<D>, t: D, l: &LengthTables<D>)
     )
 }
 
+// The mean of the dimensionless diameters of two components.
+fn mean_diameter<D: DualNum>(d: &[D; 8], sigma: &[D; 8], i: usize, j: usize) -> D
+    requires { (i < 8) × (j < 8) }
+    ensures { result ≡ D.arithmetic.mul (D.arithmetic.add (D.arithmetic.div (row D.arithmetic d.now i) (row D.arithmetic sigma.now i)) (D.arithmetic.div (row D.arithmetic d.now j) (row D.arithmetic sigma.now j))) (D.arithmetic.constant N.half) }
+{
+    (d[i] / sigma[i] + d[j] / sigma[j]) * D::from(0.5)
+}
+
+// Of the k-th pair, by the mean diameter of its components.
+fn delta_b3_at<D: DualNum>(k: usize, c: &Combined<D>, t: D, l: &LengthTables<D>, d_ij: D) -> D
+    requires { k < 64 }
+    ensures { result ≡ F.delta_b3 D.arithmetic (D.arithmetic.div t (row D.arithmetic c.now.eps_k_ij k)) (row D.arithmetic l.now.rm k) (row D.arithmetic c.now.rep_ij k) d_ij (row D.arithmetic l.now.q k) }
+{
+    delta_b3(t / c.eps_k_ij[k], l.rm[k], c.rep_ij[k], d_ij, l.q[k])
+}
+
 // Of all pairs; no sum of two diameters is taken to be the same the other way round.
 fn delta_b3_ij<D: DualNum>(
     n: usize,
@@ -279,10 +293,8 @@ fn delta_b3_ij<D: DualNum>(
 {
     let mut b3 = [D::from(0.0); 64];
     for k in 0..n * n {
-        let i = k / n;
-        let j = k % n;
-        let d_ij = (d[i] / sigma[i] + d[j] / sigma[j]) * D::from(0.5);
-        b3[k] = delta_b3(t / c.eps_k_ij[k], l.rm[k], c.rep_ij[k], d_ij, l.q[k]);
+        let d_ij = mean_diameter(d, sigma, k / n, k % n);
+        b3[k] = delta_b3_at(k, c, t, l, d_ij);
     }
     b3
 }
@@ -309,5 +321,12 @@ pub fn helmholtz_energy_density<D: DualNum>(
     let b2bar = virial_sum(n, x, &c.sigma_ij, 3, &b2);
     let b3 = delta_b3_ij(n, c, t, l, d, &sigma);
     let b3bar = virial_sum(n, x, &c.sigma_ij, 6, &b3);
-    energy(&o, t, density, density * mean_cube(n, x, &sigma), b2bar, b3bar)
+    energy(
+        &o,
+        t,
+        density,
+        density * mean_cube(n, x, &sigma),
+        b2bar,
+        b3bar,
+    )
 }

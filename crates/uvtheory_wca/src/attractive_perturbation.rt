@@ -118,8 +118,7 @@ fn correlation_quotient<D: DualNum>(c: D, rho_x: D, rep_inv: D, tau_x: D) -> D
     let k5 = coefficient(&C_WCA[5], rep_inv, tau_x);
     let rho2 = rho_x.powi(2);
     let rho3 = rho_x.powi(3);
-    c * (k0 * rho_x + k1 * rho2 + k2 * rho3)
-        / (k3 * rho_x + k4 * rho2 + k5 * rho3 + D::from(1.0))
+    c * (k0 * rho_x + k1 * rho2 + k2 * rho3) / (k3 * rho_x + k4 * rho2 + k5 * rho3 + D::from(1.0))
 }
 
 // By the prefactor c and the place rm_x of the minimum of the one fluid.
@@ -146,8 +145,7 @@ fn u_fraction_wca<D: DualNum>(rep_x: D, reduced_density: D) -> D
 {
     (reduced_density * D::from(CU_WCA[0])
         + reduced_density.powi(2)
-            * (D::from(1.0) / rep_x * D::from(CU_WCA[2]) + D::from(CU_WCA[1])))
-    .tanh()
+            * (D::from(1.0) / rep_x * D::from(CU_WCA[2]) + D::from(CU_WCA[1]))).tanh()
 }
 
 #[tactic(auto, unfolding(uvtheory::specs::Wca::AttractivePerturbation::beta_eff))]
@@ -249,7 +247,14 @@ fn delta_b2_ij<D: DualNum>(n: usize, c: &Combined<D>, t: D, l: &LengthTables<D>)
             let k = i * n + j;
             let rep = c.rep_ij[k];
             let att = c.att_ij[k];
-            delta_b2(t / c.eps_k_ij[k], rep, att, l.q[k], mie_prefactor(rep, att), l.rm[k])
+            delta_b2(
+                t / c.eps_k_ij[k],
+                rep,
+                att,
+                l.q[k],
+                mie_prefactor(rep, att),
+                l.rm[k],
+            )
         },
     )
 }

@@ -1,7 +1,6 @@
 use Rattle.std.proofs.Common.{rules, ◌∙◌}
 use Rattle.uvtheory.specs.Rows.{missing}
 use Rattle.uvtheory.specs.Inputs.{state_of}
-use Rattle.uvtheory.specs.Wca.HardSphere.{diameter_wca}
 use Rattle.uvtheory.proofs.Loops.{adds}
 use Rattle.uvtheory.proofs.Sums.{spherical_of}
 use Rattle.uvtheory.proofs.Combined.{rep_symmetric, att_symmetric, epsilon_symmetric}

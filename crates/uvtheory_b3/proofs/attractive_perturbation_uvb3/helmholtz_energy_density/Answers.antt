@@ -1,4 +1,4 @@
-use Rattle.std.proofs.Common.{rules, ℕ, ◌/◌, ◌%◌, ◌∙◌}
+use Rattle.std.proofs.Common.{rules, ◌≡◌, ℕ, ◌/◌, ◌%◌, ◌∙◌, ap}
 use Rattle.uvtheory.specs.Rows.{missing, row}
 use Rattle.uvtheory.specs.Inputs.{parameters}
 use Rattle.uvtheory.specs.Wca.HardSphere.{rm_of, diameter_wca, dimensionless_diameter_q_wca}
@@ -36,9 +36,11 @@ returns g c =
       rep_at A m a held k l,
       epsilon_at A m a held k l,
     )) in
+    let sigma : (i : ℕ) → row A c.constants-sigma.result i ≡ p.sigma i = λ i. ap (λ (f : ℕ → _). f i) c.constants-sigma.ensures in
     let third = virial_sum_held A m a held left x 6 c.delta_b3_ij-b3.result (F.delta_b3_ij A p t (diameter_wca A p t))
     (λ k l. c.delta_b3_ij-b3.ensures k l ∙ rw (
-      c.constants-sigma.ensures,
+      sigma (k / n),
+      sigma (k % n),
       matrix_at (missing A) n tables.q q lengths.q_are k l,
       matrix_at (missing A) n tables.rm rm lengths.rm_are k l,
       rep_at A m a held k l,

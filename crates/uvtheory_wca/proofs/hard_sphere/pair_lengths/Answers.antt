@@ -1,8 +1,8 @@
-use Rattle.std.proofs.Common.{◌≡◌, ℕ, ◌∙◌, ap, ap₂}
+use Rattle.std.proofs.Common.{ℕ, ◌∙◌, ap₂}
 use Rattle.uvtheory.specs.Rows.{missing, matrix}
 use Rattle.uvtheory.specs.Wca.HardSphere.{rm_of, q_of}
 use Rattle.uvtheory.proofs.Sums.{matrix_at}
-use Rattle.uvtheory_wca.proofs.Lengths.{pair_fits, flipped, worked, worked_symmetric}
+use Rattle.uvtheory_wca.proofs.Lengths.{flipped, worked, worked_symmetric}
 use Rattle.uvtheory_wca.proofs.hard_sphere.pair_lengths.Goals as goal
 
 pub returns : goal.returns
