@@ -60,7 +60,8 @@ pub fn mie_prefactor<D: DualNum>(rep: D, att: D) -> D
     rep / (rep - att) * (rep / att).powf(att / (rep - att))
 }
 
-// The mean-field constant, by the prefactor c of rep and att.
+// The mean-field constant, by the prefactor c of rep and att. Most callers give a constant x: inlined, its logarithm is worked but once.
+#[inline(always)]
 #[tactic(auto, unfolding(crate::specs::Parameters::mean_field_of))]
 pub fn mean_field_of<D: DualNum>(c: D, rep: D, att: D, x: D) -> D
     ensures { result ≡ F.mean_field_of D.arithmetic c rep att x }
