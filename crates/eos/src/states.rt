@@ -40,12 +40,13 @@ pub fn started(s: &State<f64>) -> State<Dual>
     let x = s.molefracs;
     State {
         temperature: Dual::from(s.temperature),
-        partial_density: each(8, |i: usize| -> Dual
-            requires { i < 8 }
-            ensures { result ≡ start plain (doubles d i) (doubles x i) }
-        {
-            start(d[i], x[i])
-        }),
+        partial_density: each(
+            8,
+            |i: usize| -> Dual
+                requires { i < 8 }
+                ensures { result ≡ start plain (doubles d i) (doubles x i) }
+            { start(d[i], x[i]) },
+        ),
         molefracs: constants(&x),
     }
 }

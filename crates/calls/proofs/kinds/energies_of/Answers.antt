@@ -1,6 +1,6 @@
 -- By what the test of the three energies says.
 use Rattle.std.proofs.Common.{rules, ◌≡◌, ◌∙◌, ap}
-use Rattle.std.specs.Prelude.{Err, Float}
+use Rattle.std.specs.Prelude.{Err}
 use Rattle.arithmetic.specs.Doubles.{guarded}
 use Rattle.eos.specs.Contributions.{contributions}
 use Rattle.calls.proofs.Answers.{energies_worked}
