@@ -2,13 +2,9 @@
 use Rattle.std.proofs.Common.{◌≡◌, ℕ, ◌*◌, ◌/◌, ◌%◌, ◌<◌, ◌≤◌, List, get_or, replicate, ap, ◌∙◌, ap₂, arith}
 use lib.ListN.{get_or-replicate}
 use Rattle.arithmetic.specs.Arithmetic.{Arithmetic}
-use Rattle.uvtheory.specs.declared.parameters.Mixture.{Mixture}
-use Rattle.uvtheory.specs.declared.parameters.Combined.{Combined}
 use Rattle.uvtheory.specs.Literals.{FRAC_PI_6}
 use Rattle.uvtheory.specs.Parameters.{State}
-use Rattle.uvtheory.specs.Rows.{row_of, matrix_of, RowOf, MatrixOf, missing, row, matrix, Row, Matrix}
-use Rattle.uvtheory.specs.Inputs.{parameters}
-use Rattle.uvtheory.specs.Held.{CombinedOf}
+use Rattle.uvtheory.specs.Rows.{row_of, matrix_of, RowOf, MatrixOf}
 use Rattle.uvtheory.specs.OneFluid as O
 use Rattle.uvtheory.specs.HardSphere as S
 use Rattle.uvtheory.specs.PackingFraction as P
@@ -63,37 +59,12 @@ module _ {Value : Type 0} (A : Arithmetic Value) (adds : Adds A) where
         → O.virial_sum A n x (matrix_of none n sigmas) e (matrix_of none n xs) ≡ O.virial_sum A n x sigma_ij e f
     virial_sum_of sigmas sigma_ij s e xs f h = weighted_pairs_of n x _ _ _ _ (powers sigmas sigma_ij s e) (matrix_at none n xs f h)
 
-    pub one_fluid_is : (reps atts sigmas epss ds : List Value) (rep_ij att_ij sigma_ij eps_k_ij : ℕ → ℕ → Value) (sigma d : ℕ → Value)
-        → MatrixOf none n reps rep_ij → MatrixOf none n atts att_ij → MatrixOf none n sigmas sigma_ij → MatrixOf none n epss eps_k_ij → RowOf none n ds d
-        → O.one_fluid_of A n (matrix_of none n reps) (matrix_of none n atts) (matrix_of none n sigmas) (matrix_of none n epss) sigma x (row_of none ds) ≡ O.one_fluid_of A n rep_ij att_ij sigma_ij eps_k_ij sigma x d
-    one_fluid_is reps atts sigmas epss ds rep_ij att_ij sigma_ij eps_k_ij sigma d rep_are att_are sigma_are epsilon_are d_are =
+    pub one_fluid_is : (reps atts sigmas epss : List Value) (rep_ij att_ij sigma_ij eps_k_ij : ℕ → ℕ → Value) (sigma d : ℕ → Value)
+        → MatrixOf none n reps rep_ij → MatrixOf none n atts att_ij → MatrixOf none n sigmas sigma_ij → MatrixOf none n epss eps_k_ij
+        → O.one_fluid_of A n (matrix_of none n reps) (matrix_of none n atts) (matrix_of none n sigmas) (matrix_of none n epss) sigma x d ≡ O.one_fluid_of A n rep_ij att_ij sigma_ij eps_k_ij sigma x d
+    one_fluid_is reps atts sigmas epss rep_ij att_ij sigma_ij eps_k_ij sigma d rep_are att_are sigma_are epsilon_are =
         let rep = pair_mean_of n x (matrix_of none n reps) rep_ij (matrix_at none n reps rep_ij rep_are) in
         let att = pair_mean_of n x (matrix_of none n atts) att_ij (matrix_at none n atts att_ij att_are) in
         let cubes = pair_mean_of n x (λ i j. A.powi (matrix_of none n sigmas i j) 3) (λ i j. A.powi (sigma_ij i j) 3) (powers sigmas sigma_ij sigma_are 3) in
         let eps = virial_sum_of sigmas sigma_ij sigma_are 3 epss eps_k_ij epsilon_are in
-        rw (rep, att, cubes, eps, mean_cube_of none n x ds d d_are)
-
--- ---- the combined values
-module _ {Value : Type 0} (A : Arithmetic Value) (m : Mixture) (c : Combined Value) (held : CombinedOf A m c) where
-  module _ (k : ℕ) (l : k < m.n * m.n) where
-    pub rep_at : matrix A m.n c.rep_ij (k / m.n) (k % m.n) ≡ (parameters A m).rep_ij (k / m.n) (k % m.n)
-    rep_at = matrix_at (missing A) m.n c.rep_ij (parameters A m).rep_ij held.rep_are k l
-
-    pub att_at : matrix A m.n c.att_ij (k / m.n) (k % m.n) ≡ (parameters A m).att_ij (k / m.n) (k % m.n)
-    att_at = matrix_at (missing A) m.n c.att_ij (parameters A m).att_ij held.att_are k l
-
-    pub sigma_at : matrix A m.n c.sigma_ij (k / m.n) (k % m.n) ≡ (parameters A m).sigma_ij (k / m.n) (k % m.n)
-    sigma_at = matrix_at (missing A) m.n c.sigma_ij (parameters A m).sigma_ij held.sigma_are k l
-
-    pub epsilon_at : matrix A m.n c.eps_k_ij (k / m.n) (k % m.n) ≡ (parameters A m).eps_k_ij (k / m.n) (k % m.n)
-    epsilon_at = matrix_at (missing A) m.n c.eps_k_ij (parameters A m).eps_k_ij held.epsilon_are k l
-
-  module _ (left : Adds A) (x : ℕ → Value) where
-    pub virial_sum_held : (e : ℕ) (xs : List Value) (f : ℕ → ℕ → Value) → Matrix A m.n xs f → O.virial_sum A m.n x (matrix A m.n c.sigma_ij) e (matrix A m.n xs) ≡ O.virial_sum A m.n x (parameters A m).sigma_ij e f
-    virial_sum_held = virial_sum_of A left (missing A) m.n x c.sigma_ij (parameters A m).sigma_ij held.sigma_are
-
-    pub one_fluid_held : (ds : List Value) (d : ℕ → Value) → Row A m.n ds d
-        → O.one_fluid_of A m.n (matrix A m.n c.rep_ij) (matrix A m.n c.att_ij) (matrix A m.n c.sigma_ij) (matrix A m.n c.eps_k_ij) (parameters A m).sigma x (row A ds) ≡ O.one_fluid_properties A (parameters A m) x d
-    one_fluid_held ds d =
-        let p = parameters A m in
-        one_fluid_is A left (missing A) m.n x c.rep_ij c.att_ij c.sigma_ij c.eps_k_ij ds p.rep_ij p.att_ij p.sigma_ij p.eps_k_ij p.sigma d held.rep_are held.att_are held.sigma_are held.epsilon_are
+        rw (rep, att, cubes, eps)

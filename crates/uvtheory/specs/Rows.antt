@@ -18,10 +18,6 @@ module _ {X : Type 0} (none : X) where
   abbrev pub MatrixOf : ℕ → List X → (ℕ → ℕ → X) → Type 0
   MatrixOf n xs f = (k : ℕ) → k < n * n → slice_index_or xs k none ≡ f (k / n) (k % n)
 
-  -- below the diagonal stands what stands above it
-  abbrev pub SymmetricOf : ℕ → List X → Type 0
-  SymmetricOf n xs = (k : ℕ) → k < n * n → k % n < k / n → slice_index_or xs (k % n * n + k / n) none ≡ slice_index_or xs k none
-
 -- of doubles, as sent or in a table
 abbrev pub doubles : List Float → ℕ → Float
 doubles = row_of nan
@@ -42,9 +38,6 @@ module _ {Value : Type 0} (A : Arithmetic Value) where
 
   abbrev pub Matrix : ℕ → List Value → (ℕ → ℕ → Value) → Type 0
   Matrix = MatrixOf missing
-
-  abbrev pub Symmetric : ℕ → List Value → Type 0
-  Symmetric = SymmetricOf missing
 
 -- the place of k_ij among those of i below j, row by row
 abbrev pub place : ℕ → ℕ → ℕ → ℕ

@@ -1,9 +1,10 @@
 // hard_sphere/mod.rs: the hard-sphere term.
-ghost use Rattle.std.specs.Prelude.{◌≡◌, ◌≤◌};
+ghost use Rattle.std.specs.Prelude.{◌≡◌};
 ghost use Rattle.uvtheory.specs.Rows.{row};
 ghost use Rattle.uvtheory.specs.Inputs.{state_of};
 ghost use Rattle.uvtheory.specs.HardSphere as F;
 
+use crate::components::Components;
 use crate::consts::FRAC_PI_6;
 use crate::parameters::State;
 use num_dual::dual_num::DualNum;
@@ -11,29 +12,27 @@ use num_dual::dual_num::DualNum;
 // The zeta of the fractions with the diameters to the k.
 #[tactic(auto, unfolding(crate::specs::HardSphere::weighted_zeta))]
 pub fn weighted_zeta<D: DualNum>(
-    n: usize,
+    n: Components,
     unit: &[D; 8],
     diameter: &[D; 8],
     weights: &[D; 8],
     k: u64,
 ) -> D
-    requires { n ≤ 8 }
     ensures { result ≡ F.weighted_zeta D.arithmetic n (row D.arithmetic unit.now) (row D.arithmetic diameter.now) (row D.arithmetic weights.now) k }
 {
     let mut zeta = D::from(0.0);
-    for i in 0..n {
+    for i in 0..n.get() {
         zeta = zeta + weights[i] * diameter[i].powi(k) * unit[i];
     }
     zeta
 }
 
 // The vector sum.
-pub fn sum<D: DualNum>(n: usize, x: &[D; 8]) -> D
-    requires { n ≤ 8 }
+pub fn sum<D: DualNum>(n: Components, x: &[D; 8]) -> D
     ensures { result ≡ D.arithmetic.sum n (row D.arithmetic x.now) }
 {
     let mut sum = D::from(0.0);
-    for i in 0..n {
+    for i in 0..n.get() {
         sum = sum + x[i];
     }
     sum
@@ -59,18 +58,16 @@ pub fn bmcsl<D: DualNum>(z0: D, z1: D, z2: D, z3: D, density: D) -> D
 // By the units, the diameters and the density.
 #[tactic(auto, unfolding(crate::specs::HardSphere::helmholtz_energy_density))]
 pub fn helmholtz_energy_density<D: DualNum>(
-    n: usize,
+    n: Components,
     unit: &[D; 8],
     diameter: &[D; 8],
     s: &State<D>,
-    density: D,
 ) -> D
-    requires { (n ≤ 8) × (density ≡ D.arithmetic.sum n (row D.arithmetic s.now.partial_density)) }
     ensures { result ≡ F.helmholtz_energy_density D.arithmetic n (row D.arithmetic unit.now) (row D.arithmetic diameter.now) (state_of D.arithmetic s.now) }
 {
     let z0 = weighted_zeta(n, unit, diameter, &s.molefracs, 0);
     let z1 = weighted_zeta(n, unit, diameter, &s.molefracs, 1);
     let z2 = weighted_zeta(n, unit, diameter, &s.molefracs, 2);
     let z3 = weighted_zeta(n, unit, diameter, &s.molefracs, 3);
-    bmcsl(z0, z1, z2, z3, density)
+    bmcsl(z0, z1, z2, z3, sum(n, &s.partial_density))
 }

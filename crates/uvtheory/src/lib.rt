@@ -4,6 +4,7 @@
 
 pub mod arrays;
 pub mod beta_eff;
+pub mod components;
 pub mod consts;
 pub mod contributions;
 pub mod eos;

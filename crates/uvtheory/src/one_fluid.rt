@@ -1,9 +1,11 @@
 // one_fluid_properties, which bh/attractive_perturbation.rs and wca/attractive_perturbation.rs have word for word, and the sums over pairs of the virial coefficients.
-ghost use Rattle.std.specs.Prelude.{◌≡◌, ◌≤◌};
+ghost use Rattle.std.specs.Prelude.{◌≡◌};
 ghost use Rattle.uvtheory.specs.Rows.{row, matrix};
+ghost use Rattle.uvtheory.specs.Inputs.{parameters};
 ghost use Rattle.uvtheory.specs.OneFluid as F;
 
-use crate::parameters::Combined;
+use crate::components::Components;
+use crate::parameters::UVTheoryPars;
 use num_dual::dual_num::DualNum;
 
 // The Rust's six values, in its order.
@@ -19,12 +21,11 @@ pub struct OneFluid<D> {
 
 // The dot product with the cubes of a row.
 #[tactic(auto, unfolding(crate::specs::OneFluid::mean_cube))]
-pub fn mean_cube<D: DualNum>(n: usize, x: &[D; 8], s: &[D; 8]) -> D
-    requires { n ≤ 8 }
+pub fn mean_cube<D: DualNum>(n: Components, x: &[D; 8], s: &[D; 8]) -> D
     ensures { result ≡ F.mean_cube D.arithmetic n (row D.arithmetic x.now) (row D.arithmetic s.now) }
 {
     let mut sum = D::from(0.0);
-    for i in 0..n {
+    for i in 0..n.get() {
         sum = sum + x[i] * s[i].powi(3);
     }
     sum
@@ -32,10 +33,10 @@ pub fn mean_cube<D: DualNum>(n: usize, x: &[D; 8], s: &[D; 8]) -> D
 
 // x_i x_j f_ij^k, over all pairs.
 #[tactic(auto, unfolding(crate::specs::OneFluid::pair_mean))]
-pub fn pair_mean<D: DualNum>(n: usize, x: &[D; 8], f: &[D; 64], k: u64) -> D
-    requires { n ≤ 8 }
+pub fn pair_mean<D: DualNum>(n: Components, x: &[D; 8], f: &[D; 64], k: u64) -> D
     ensures { result ≡ F.pair_mean D.arithmetic n (row D.arithmetic x.now) (λ i j. D.arithmetic.powi (matrix D.arithmetic n f.now i j) k) }
 {
+    let n = n.get();
     let mut sum = D::from(0.0);
     for ij in 0..n * n {
         sum = sum + x[ij / n] * x[ij % n] * f[ij].powi(k);
@@ -45,10 +46,16 @@ pub fn pair_mean<D: DualNum>(n: usize, x: &[D; 8], f: &[D; 64], k: u64) -> D
 
 // x_i x_j sigma_ij^k f_ij, over all pairs.
 #[tactic(auto, unfolding(crate::specs::OneFluid::weighted_pairs))]
-pub fn virial_sum<D: DualNum>(n: usize, x: &[D; 8], sigma_ij: &[D; 64], k: u64, f: &[D; 64]) -> D
-    requires { n ≤ 8 }
+pub fn virial_sum<D: DualNum>(
+    n: Components,
+    x: &[D; 8],
+    sigma_ij: &[D; 64],
+    k: u64,
+    f: &[D; 64],
+) -> D
     ensures { result ≡ F.virial_sum D.arithmetic n (row D.arithmetic x.now) (matrix D.arithmetic n sigma_ij.now) k (matrix D.arithmetic n f.now) }
 {
+    let n = n.get();
     let mut sum = D::from(0.0);
     for ij in 0..n * n {
         sum = sum + x[ij / n] * x[ij % n] * sigma_ij[ij].powi(k) * f[ij];
@@ -64,25 +71,19 @@ pub fn cube_root<D: DualNum>(v: D) -> D
     v.powf(D::from(1.0) / D::from(3.0))
 }
 
-pub fn one_fluid_properties<D: DualNum>(
-    n: usize,
-    c: &Combined<D>,
-    sigma: &[D; 8],
-    x: &[D; 8],
-    d: &[D; 8],
-) -> OneFluid<D>
-    requires { n ≤ 8 }
-    ensures { result ≡ F.one_fluid_of D.arithmetic n (matrix D.arithmetic n c.now.rep_ij) (matrix D.arithmetic n c.now.att_ij) (matrix D.arithmetic n c.now.sigma_ij) (matrix D.arithmetic n c.now.eps_k_ij)
-        (row D.arithmetic sigma.now) (row D.arithmetic x.now) (row D.arithmetic d.now) }
+// Of the mixture, by the fractions and the diameters.
+pub fn one_fluid_properties<D: DualNum>(p: &UVTheoryPars<D>, x: &[D; 8], d: &[D; 8]) -> OneFluid<D>
+    ensures { result ≡ F.one_fluid_properties D.arithmetic (parameters D.arithmetic p.now) (row D.arithmetic x.now) (row D.arithmetic d.now) }
 {
-    let weighted_sigma3_ij = pair_mean(n, x, &c.sigma_ij, 3);
-    let sigma_x = cube_root(mean_cube(n, x, sigma));
+    let n = p.mixture.n;
+    let weighted_sigma3_ij = pair_mean(n, x, &p.sigma_ij, 3);
+    let sigma_x = cube_root(mean_cube(n, x, &p.sigma));
     OneFluid {
-        rep: pair_mean(n, x, &c.rep_ij, 1),
-        att: pair_mean(n, x, &c.att_ij, 1),
+        rep: pair_mean(n, x, &p.rep_ij, 1),
+        att: pair_mean(n, x, &p.att_ij, 1),
         sigma: sigma_x,
         weighted_sigma3_ij,
-        epsilon_k: virial_sum(n, x, &c.sigma_ij, 3, &c.eps_k_ij) / weighted_sigma3_ij,
+        epsilon_k: virial_sum(n, x, &p.sigma_ij, 3, &p.eps_k_ij) / weighted_sigma3_ij,
         d: cube_root(mean_cube(n, x, d)) / sigma_x,
     }
 }

@@ -1,20 +1,20 @@
 // The packing fractions, which bh/hard_sphere.rs and wca/hard_sphere.rs have word for word but for tau and the tables.
-ghost use Rattle.std.specs.Prelude.{◌≡◌, ◌≤◌};
+ghost use Rattle.std.specs.Prelude.{◌≡◌};
 ghost use Rattle.uvtheory.specs.Tables.{table};
 ghost use Rattle.uvtheory.specs.Rows.{doubles, row};
 ghost use Rattle.uvtheory.specs.PackingFraction as F;
 
+use crate::components::Components;
 use crate::consts::PI;
 use num_dual::dual_num::DualNum;
 
 #[tactic(auto, unfolding(crate::specs::PackingFraction::packing_fraction))]
-pub fn packing_fraction<D: DualNum>(n: usize, partial_density: &[D; 8], diameter: &[D; 8]) -> D
-    requires { n ≤ 8 }
+pub fn packing_fraction<D: DualNum>(n: Components, partial_density: &[D; 8], diameter: &[D; 8]) -> D
     ensures { result ≡ F.packing_fraction D.arithmetic n (row D.arithmetic partial_density.now) (row D.arithmetic diameter.now) }
 {
     let pi_6 = D::from(PI) / D::from(6.0);
     let mut eta = D::from(0.0);
-    for i in 0..n {
+    for i in 0..n.get() {
         eta = eta + partial_density[i] * diameter[i].powi(3) * pi_6;
     }
     eta

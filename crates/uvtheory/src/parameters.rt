@@ -4,15 +4,16 @@ ghost use Rattle.uvtheory.specs.Literals as N;
 ghost use Rattle.uvtheory.specs.Parameters as F;
 ghost use Rattle.uvtheory.specs.Parameters.{combined};
 ghost use Rattle.uvtheory.specs.Rows.{doubles, row, Matrix, place as place_of};
-ghost use Rattle.uvtheory.specs.Held.{CombinedOf};
 
 use crate::arrays::{constants, symmetric};
+use crate::components::Components;
 use num_dual::dual_num::DualNum;
+use std::marker::Model;
 
-// A mixture of n substances, 1 to 8, as sent. Only the first n of each row count, and of k_ij the first n(n-1)/2: i below j, row by row.
+// A mixture of n substances, as sent. Only the first n of each row count, and of k_ij the first n(n-1)/2: i below j, row by row.
 #[derive(Clone, Copy)]
 pub struct Mixture {
-    pub n: usize,
+    pub n: Components,
     pub rep: [f64; 8],
     pub att: [f64; 8],
     pub sigma: [f64; 8],
@@ -28,13 +29,30 @@ pub struct State<D> {
     pub molefracs: [D; 8],
 }
 
-// The combined values of all pairs: matrices of n rows of n values, row by row.
-#[derive(Clone, Copy)]
-pub struct Combined<D> {
+// UVTheoryPars: a mixture with its values in the number type, and the combined values of all pairs: matrices of n rows of n values, row by row. A clause sees the mixture.
+#[derive(Drop)]
+pub struct UVTheoryPars<'a, D: DualNum> {
+    pub mixture: &'a Mixture,
+    pub rep: [D; 8],
+    pub att: [D; 8],
+    pub sigma: [D; 8],
+    pub epsilon_k: [D; 8],
     pub rep_ij: [D; 64],
     pub att_ij: [D; 64],
     pub sigma_ij: [D; 64],
     pub eps_k_ij: [D; 64],
+}
+
+impl<'a, D: DualNum> Model for UVTheoryPars<'a, D> {
+    ghost use Rattle.uvtheory.specs.declared.parameters.Mixture.{Mixture};
+
+    ghost Value = { Mixture };
+
+    ghost use Rattle.uvtheory.specs.Held.{Rows, Matrices};
+
+    ghost view = { λ p. p.mixture.now };
+
+    ghost invariant = { λ p. Rows D.arithmetic p.mixture.now p.rep p.att p.sigma p.epsilon_k × Matrices D.arithmetic p.mixture.now p.rep_ij p.att_ij p.sigma_ij p.eps_k_ij };
 }
 
 // Constants for BH temperature dependent HS diameter.
@@ -110,17 +128,16 @@ pub fn bh_coefficients<D: DualNum>(rep: D, inv_a76: D) -> [D; 5]
 }
 
 // The place of k_ij.
-pub fn place(n: usize, i: usize, j: usize) -> usize
-    requires { (i < j) × (j < n) × (n ≤ 8) }
+pub fn place(n: Components, i: usize, j: usize) -> usize
+    requires { (i < j) × (j < n) }
     ensures { (result ≡ place_of n i j) × (result < 28) }
 {
-    i * (2 * n - i - 1) / 2 + (j - i - 1)
+    i * (2 * n.get() - i - 1) / 2 + (j - i - 1)
 }
 
 // The combined values of all pairs: on the diagonal the substances' own, and for i below j what the rule gives.
-fn by_rule<D: DualNum, F: Fn(usize, usize) -> D>(n: usize, pure: &[D; 8], rule: F) -> [D; 64]
-    requires few { n ≤ 8 }
-    requires callable { (i j : ℕ) → i < j → j < n → F.pre rule i j }
+fn by_rule<D: DualNum, F: Fn(usize, usize) -> D>(n: Components, pure: &[D; 8], rule: F) -> [D; 64]
+    requires { n ≤ 8 → (i j : ℕ) → i < j → j < n → F.pre rule i j }
     ensures { (f : ℕ → ℕ → D) → ((i j : ℕ) (r : D) → i < j → j < n → F.post rule i j r → r ≡ f i j) → Matrix D.arithmetic n result (combined (row D.arithmetic pure.now) f) }
 {
     symmetric(
@@ -133,52 +150,58 @@ fn by_rule<D: DualNum, F: Fn(usize, usize) -> D>(n: usize, pure: &[D; 8], rule: 
     )
 }
 
-// UVTheoryPars::new: each pair is worked once, for i below j, and copied.
-pub fn combine<D: DualNum>(m: &Mixture) -> Combined<D>
-    requires { m.now.n ≤ 8 }
-    ensures { CombinedOf D.arithmetic m.now result }
-{
-    let n = m.n;
-    let k_ij = &m.k_ij;
-    let rep = constants::<D>(&m.rep);
-    let att = constants::<D>(&m.att);
-    let sigma = constants::<D>(&m.sigma);
-    let epsilon_k = constants::<D>(&m.epsilon_k);
-    Combined {
-        rep_ij: by_rule(
-            n,
-            &rep,
-            |i, j| -> D
-                requires { (i < 8) × (j < 8) }
-                ensures { result ≡ D.arithmetic.sqrt (D.arithmetic.mul (row D.arithmetic rep i) (row D.arithmetic rep j)) }
-            { (rep[i] * rep[j]).sqrt() },
-        ),
-        att_ij: by_rule(
-            n,
-            &att,
-            |i, j| -> D
-                requires { (i < 8) × (j < 8) }
-                ensures { result ≡ D.arithmetic.sqrt (D.arithmetic.mul (row D.arithmetic att i) (row D.arithmetic att j)) }
-            { (att[i] * att[j]).sqrt() },
-        ),
-        sigma_ij: by_rule(
-            n,
-            &sigma,
-            |i, j| -> D
-                requires { (i < 8) × (j < 8) }
-                ensures { result ≡ D.arithmetic.mul (D.arithmetic.constant N.half) (D.arithmetic.add (row D.arithmetic sigma i) (row D.arithmetic sigma j)) }
-            { D::from(0.5) * (sigma[i] + sigma[j]) },
-        ),
-        eps_k_ij: by_rule(
-            n,
-            &epsilon_k,
-            |i, j| -> D
-                requires { (i < j) × (j < n) × (n ≤ 8) }
-                ensures { result ≡ D.arithmetic.mul (D.arithmetic.sub (D.arithmetic.constant N.one) (D.arithmetic.constant (doubles k_ij.entry.now (place_of n i j)))) (D.arithmetic.sqrt (D.arithmetic.mul (row D.arithmetic epsilon_k i) (row D.arithmetic epsilon_k j))) }
-            {
-                (D::from(1.0) - D::from(k_ij[place(n, i, j)]))
-                    * (epsilon_k[i] * epsilon_k[j]).sqrt()
-            },
-        ),
+impl<'a, D: DualNum> UVTheoryPars<'a, D> {
+    // Each pair is worked once, for i below j, and copied.
+    pub fn new(mixture: &'a Mixture) -> UVTheoryPars<'a, D>
+        ensures { result ≡ mixture.entry.now }
+    {
+        let n = mixture.n;
+        let k_ij = &mixture.k_ij;
+        let rep = constants(&mixture.rep);
+        let att = constants(&mixture.att);
+        let sigma = constants(&mixture.sigma);
+        let epsilon_k = constants(&mixture.epsilon_k);
+        UVTheoryPars {
+            mixture,
+            rep,
+            att,
+            sigma,
+            epsilon_k,
+            rep_ij: by_rule(
+                n,
+                &rep,
+                |i, j| -> D
+                    requires { (i < 8) × (j < 8) }
+                    ensures { result ≡ D.arithmetic.sqrt (D.arithmetic.mul (row D.arithmetic rep i) (row D.arithmetic rep j)) }
+                { (rep[i] * rep[j]).sqrt() },
+            ),
+            att_ij: by_rule(
+                n,
+                &att,
+                |i, j| -> D
+                    requires { (i < 8) × (j < 8) }
+                    ensures { result ≡ D.arithmetic.sqrt (D.arithmetic.mul (row D.arithmetic att i) (row D.arithmetic att j)) }
+                { (att[i] * att[j]).sqrt() },
+            ),
+            sigma_ij: by_rule(
+                n,
+                &sigma,
+                |i, j| -> D
+                    requires { (i < 8) × (j < 8) }
+                    ensures { result ≡ D.arithmetic.mul (D.arithmetic.constant N.half) (D.arithmetic.add (row D.arithmetic sigma i) (row D.arithmetic sigma j)) }
+                { D::from(0.5) * (sigma[i] + sigma[j]) },
+            ),
+            eps_k_ij: by_rule(
+                n,
+                &epsilon_k,
+                |i, j| -> D
+                    requires { (i < j) × (j < n) × (n ≤ 8) }
+                    ensures { result ≡ D.arithmetic.mul (D.arithmetic.sub (D.arithmetic.constant N.one) (D.arithmetic.constant (doubles k_ij.entry.now (place_of n i j)))) (D.arithmetic.sqrt (D.arithmetic.mul (row D.arithmetic epsilon_k i) (row D.arithmetic epsilon_k j))) }
+                {
+                    (D::from(1.0) - D::from(k_ij[place(n, i, j)]))
+                        * (epsilon_k[i] * epsilon_k[j]).sqrt()
+                },
+            ),
+        }
     }
 }

@@ -7,7 +7,7 @@ pub loop-i-preserved : goal.loop-i-preserved
 loop-i-preserved g c =
     let xs = c.loop-i.row in
     let size : length xs ≡ 8 = c.loop-i.invariant.1 in
-    let inside : c.loop-i.i < c.args.n = c.loop-i-test.true in (
+    let inside : c.loop-i.i < c.args.n = omega arith in (
       omega arith,
       length-set xs _ _ ∙ size,
       λ values given.

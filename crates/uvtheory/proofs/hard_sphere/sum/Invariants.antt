@@ -3,4 +3,4 @@ use Rattle.uvtheory.specs.Rows.{row}
 use Rattle.uvtheory.proofs.hard_sphere.sum.Given as goal
 
 abbrev pub invariant-loop-i : goal.invariant-loop-i
-invariant-loop-i g l = let A = g.D.DualNum.arithmetic in (l.i ≤ l.n) × (l.sum ≡ A.sum l.i (row A l.x))
+invariant-loop-i g l = let A = g.D.DualNum.arithmetic in (l.i ≤ l.fn.n) × (l.sum ≡ A.sum l.i (row A l.x))

@@ -1,0 +1,37 @@
+// How many substances a mixture has.
+ghost use Rattle.std.specs.Prelude.{◌≡◌, ◌≤◌};
+
+use std::marker::Model;
+
+// At most 8: the arrays of the formulas have room for them. A clause sees the number.
+#[derive(Clone, Copy)]
+pub struct Components {
+    n: usize,
+}
+
+impl Model for Components {
+    ghost use Rattle.std.specs.Prelude.{ℕ, ◌≤◌};
+
+    ghost Value = { ℕ };
+
+    ghost view = { λ c. c.n };
+
+    ghost inverse = { λ n. record { n = n } };
+
+    ghost invariant = { λ c. c.n ≤ 8 };
+}
+
+impl Components {
+    pub fn new(n: usize) -> Components
+        requires { n ≤ 8 }
+        ensures { result ≡ n }
+    {
+        Components { n }
+    }
+
+    pub fn get(self) -> usize
+        ensures { (result ≡ self) × (result ≤ 8) }
+    {
+        self.n
+    }
+}
