@@ -1,5 +1,5 @@
 -- The sums over arrays that hold the formulas' values are the formulas' sums.
-use Rattle.std.proofs.Common.{◌≡◌, ℕ, ◌*◌, ◌/◌, ◌%◌, ◌<◌, List, get_or, ap, ◌∙◌, ap₂, arith}
+use Rattle.std.proofs.Common.{◌≡◌, ℕ, ◌*◌, ◌/◌, ◌%◌, ◌<◌, List, get_or, ap, ◌∙◌, ap₂}
 use Rattle.arithmetic.specs.Arithmetic.{Arithmetic}
 use Rattle.uvtheory.specs.Parameters.{State}
 use Rattle.uvtheory.specs.Rows.{row_of, matrix_of, RowOf, MatrixOf}

@@ -214,5 +214,11 @@ pub fn helmholtz_energy_density<D: DualNum>(b: &BarkerHenderson<D>) -> D
     let b2 = delta_b2_ij(p, s.temperature);
     let b2bar = virial_sum(n, x, &p.sigma_ij, 3, &b2);
     let density = sum(n, &s.partial_density);
-    energy(&o, s.temperature, density, density * mean_cube(n, x, &p.sigma), b2bar)
+    energy(
+        &o,
+        s.temperature,
+        density,
+        density * mean_cube(n, x, &p.sigma),
+        b2bar,
+    )
 }

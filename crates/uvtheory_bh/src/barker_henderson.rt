@@ -41,10 +41,7 @@ pub struct Component<D> {
 
 impl<'a, D: DualNum> BarkerHenderson<'a, D> {
     #[tactic(auto, using(uvtheory::proofs::Sizes::parameters_fit))]
-    pub fn new(
-        parameters: &'a UVTheoryPars<D>,
-        state: &'a State<D>,
-    ) -> BarkerHenderson<'a, D>
+    pub fn new(parameters: &'a UVTheoryPars<D>, state: &'a State<D>) -> BarkerHenderson<'a, D>
         ensures { result ≡ record { mixture = parameters.entry.now; state = state.entry.now } }
     {
         BarkerHenderson {

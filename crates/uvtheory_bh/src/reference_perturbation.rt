@@ -5,8 +5,8 @@ ghost use Rattle.uvtheory.specs.Inputs.{parameters, state_of};
 ghost use Rattle.uvtheory.specs.Bh.HardSphere.{diameter_bh};
 ghost use Rattle.uvtheory.specs.Bh.ReferencePerturbation as F;
 
-use crate::hard_sphere::{BH_CONSTANTS_ETA_A, BH_CONSTANTS_ETA_B, tau};
 use crate::barker_henderson::{BarkerHenderson, Component};
+use crate::hard_sphere::{BH_CONSTANTS_ETA_A, BH_CONSTANTS_ETA_B, tau};
 use num_dual::dual_num::DualNum;
 use uvtheory::hard_sphere::sum;
 use uvtheory::packing_fraction::{packing_fraction, packing_fraction_a, packing_fraction_b};
