@@ -310,10 +310,10 @@ pub fn product_of(r: Range, s: Range) -> Range
 fn agreed(i: bool, j: bool, a: Range, b: Range) -> Range
     ensures { result ≡ Rules.agreed i j a b }
 {
-    if i != j {
-        return failed();
+    if i && j {
+        return a;
     }
-    if i { a } else { b }
+    if i || j { failed() } else { b }
 }
 
 // The least and the greatest of four, moved outwards.
