@@ -97,12 +97,8 @@ pub fn powf(v: f64, b: f64) -> f64
     if v < 0.0 {
         return 0.0 / 0.0;
     }
-    if is_finite(v) {
-        if b > 0.0 {
-            if is_finite(b) {
-                return 0.0;
-            }
-        }
+    if is_finite(v) && b > 0.0 && is_finite(b) {
+        return 0.0;
     }
     0.0 / 0.0
 }
