@@ -15,7 +15,7 @@ use std::marker::Model;
 use std::ops::{Add, Div, Mul, Neg, Sub};
 
 // A double whose quotient is the guarded one: by an infinity it would be a zero, and what is not finite would be lost. In contracts it is its value.
-#[derive(Clone, Copy)]
+#[derive(Clone, Copy, Debug, PartialEq)]
 pub struct Double {
     value: f64,
 }
