@@ -61,10 +61,7 @@ fn exp_between(v: Range) -> Range
         → result ≡ rules.step floor (rules.add (rules.mul v (rules.constant K.E)) (rules.constant K.half)) (λ k. R.exp_of rules v k) }
 {
     let place = v * Range::from(E) + Range::from(0.5);
-    if !place.is_ok() {
-        return failed();
-    }
-    if v.lower < -700.0 || !(v.lower <= 700.0) {
+    if !place.is_ok() || v.lower < -700.0 || !(v.lower <= 700.0) {
         return failed();
     }
     let k = floor(v.lower * E + 0.5);

@@ -28,21 +28,17 @@ use Rattle.range.proofs.Corners.{In, lower_finite, upper_finite}
 use Rattle.range.proofs.Testing.{has_ends, failed_step}
 use Rattle.range_elementary.proofs.Place.{places, place_in, one_floor, floor_below, floor_above}
 use Rattle.range_elementary.proofs.exponential.exp_between.Goals as goal
-use Rattle.range_elementary.proofs.exponential.exp_between.Goals.{then-v-via-then-v, then-v-via-else-v+then-not-v, then-place-k-via-then-place-k, then-place-k-via-else-place-k+then-k-place}
+use Rattle.range_elementary.proofs.exponential.exp_between.Goals.{then-not-is_ok-via-then-not-is_ok, then-not-is_ok-via-else-not-is_ok+then-v, then-not-is_ok-via-else-not-is_ok+else-v+then-not-v, then-place-k-via-then-place-k, then-place-k-via-else-place-k+then-k-place}
 
--- the range of v × E + 0.5
+-- what is not worked
 pub returns-then-not-is_ok : goal.returns-then-not-is_ok
 returns-then-not-is_ok c =
     let v = c.args.v in
     let is : c.add-place.result ≡ places v = rw (c.add-place.ensures, c.from-2.ensures, c.mul.ensures, c.from.ensures) in
-    λ a l h. c.failed.ensures ∙ sym (failed_step floor (places v) (λ k. R.exp_of Rules.rules v k) (ap ok (sym is) ∙ sym c.is_ok.ensures ∙ c.if-not-is_ok.true))
-
-pub returns-then-v : goal.returns-then-v
-returns-then-v c =
-    let v = c.args.v in
-    λ a l h. elim c.then-v.branch [
-      | then-v-via-then-v w ↦ absurd (true≢false (sym w.if-v.true ∙ l))
-      | then-v-via-else-v+then-not-v w ↦ absurd (false≢true (sym w.if-not-v.true ∙ le_is v.lower K.seven_hundred (lower_finite v (has_ends v a)) constants.2 ∙ ap not h))
+    λ a l h. elim c.then-not-is_ok.branch [
+      | then-not-is_ok-via-then-not-is_ok w ↦ c.failed.ensures ∙ sym (failed_step floor (places v) (λ k. R.exp_of Rules.rules v k) (ap ok (sym is) ∙ sym c.is_ok.ensures ∙ w.if-not-is_ok.true))
+      | then-not-is_ok-via-else-not-is_ok+then-v w ↦ absurd (true≢false (sym w.if-v.true ∙ l))
+      | then-not-is_ok-via-else-not-is_ok+else-v+then-not-v w ↦ absurd (false≢true (sym w.if-not-v.true ∙ le_is v.lower K.seven_hundred (lower_finite v (has_ends v a)) constants.2 ∙ ap not h))
     ]
 
 -- ---- past the tests of the lower end: its k
