@@ -215,7 +215,7 @@ impl Neg for Range {
     }
 }
 
-// Most sums and products are of ranges above 0. These are worked here, short enough to be inlined; the others are calls that take the four ends.
+// Most sums and products are of ranges above 0. These are worked here, short enough to be inlined; the others are calls.
 impl Add for Range {
     type Output = Range;
 

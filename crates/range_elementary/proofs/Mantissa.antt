@@ -2,8 +2,8 @@
 use Prim.Native.Nat.{ℕ, ◌+◌, ◌*◌, ◌<◌}
 use native.Mathlib.Nat.{mul-lt-mul_of_pos_right}
 use native.Mathlib.Omega.{arith}
-use mathlib.Core.Path.{◌≡◌, refl, sym, subst}
-use mathlib.Core.Bool.{Bool, true, false}
+use mathlib.Core.Path.{◌≡◌, sym, subst}
+use mathlib.Core.Bool.{true, false}
 use mathlib.Core.Option.{none, some}
 use lib.IntN.{ℤ, neg_ℤ}
 use lib.Dec.{T}
@@ -16,14 +16,14 @@ use Rattle.arithmetic.specs.Value.{value}
 use Rattle.arithmetic.specs.Cases.{exponent_of}
 use Rattle.arithmetic.specs.Constants.{zero_d}
 use Rattle.arithmetic.specs.Doubles.{scaled}
-use Rattle.arithmetic.proofs.Fraction.{◌≈◌, ≼_trans, ≺-≼-trans, ≼-≺-trans, ≺-not-≼, ≺-irrefl}
+use Rattle.arithmetic.proofs.Fraction.{◌≈◌, ≼_trans, ≺-≼-trans, ≼-≺-trans, ≺-irrefl}
 use Rattle.arithmetic.proofs.Value.{le→≼}
 use Rattle.arithmetic.proofs.Tests.{not_at_least}
 use Rattle.arithmetic.proofs.Cases.{exponent_none}
 use Rattle.range.specs.declared.basic.Range.{Range}
 use Rattle.range.specs.Rules.{range, ok, ends, kept, scale}
 use Rattle.range.proofs.Corners.{lower_finite, upper_finite}
-use Rattle.range.proofs.Contained.{zero_is, zero_value, zero_number}
+use Rattle.range.proofs.Contained.{zero_is, zero_number}
 use Rattle.range.proofs.PowersOfTwo.{power, kept_exact}
 use Rattle.range.proofs.Positive.{above_nonzero}
 use Rattle.range.proofs.Testing.{has_ends}

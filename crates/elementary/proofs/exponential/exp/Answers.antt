@@ -1,5 +1,5 @@
 -- The tests tell the cases of the recipe.
-use Rattle.std.proofs.Common.{◌≡◌, true, false, T, ℤ, sym, refl, ap, ◌∙◌, subst, w64, to_z, of_z}
+use Rattle.std.proofs.Common.{◌≡◌, true, false, T, ℤ, sym, refl, ap, ◌∙◌, w64, to_z, of_z}
 use lib.Ieee.{Float, nan, inf, fin, binary64, lt, le, add, mul}
 use lib.Ieee.Bits.{is_true}
 use lib.Ieee.Scale.{finite}

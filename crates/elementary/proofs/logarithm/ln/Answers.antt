@@ -1,5 +1,5 @@
 -- The tests tell the cases of the recipe.
-use Rattle.std.proofs.Common.{◌≡◌, Bool, true, false, T, ℤ, neg_ℤ, sym, refl, ap, ◌∙◌, subst, ap₂, arith, w64}
+use Rattle.std.proofs.Common.{◌≡◌, true, false, T, ℤ, neg_ℤ, sym, refl, ap, ◌∙◌, subst, ap₂, arith, w64}
 use mathlib.Core.Option.{some}
 use lib.Ieee.{Float, nan, inf, fin, binary64, to_bits, of_bits, in_float, lt}
 use lib.Ieee.Bits.{of_bits-to_bits, is_true}

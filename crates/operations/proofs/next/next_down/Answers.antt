@@ -1,16 +1,15 @@
 -- Zeros by computation; for the rest the code's sum is the next pattern.
 use mathlib.Core.Path.{◌≡◌, sym, ap, subst, ◌∙◌}
-use Prim.Native.Nat.{ℕ, ◌+◌, ◌-◌, ◌*◌, ◌/◌, ◌^◌, ◌<◌}
+use Prim.Native.Nat.{ℕ, ◌+◌, ◌-◌, ◌*◌, ◌/◌, ◌^◌}
 use native.Mathlib.Omega.{arith}
-use mathlib.Core.Bool.{Bool, true, false, not}
+use mathlib.Core.Bool.{true, false, not}
 use lib.Dec.{T}
 use lib.Ieee.{Float, binary64, eq, fits, to_bits, of_bits, nan_bits}
 use lib.Ieee.Bits.{to_bits-lt}
-use lib.Ieee.Scale.{finite}
 use Rattle.std.proofs.lemmas.Float.{T_from_true}
 use Rattle.arithmetic.specs.Next.{bits_down, next_down}
 use Rattle.arithmetic.proofs.Next.{bits_down_is, bits_down_real, next_down_zero, finite_not_nan, pattern_room}
-use Rattle.arithmetic.proofs.Tests.{is_so, where_then, where_else}
+use Rattle.arithmetic.proofs.Tests.{is_so, where_then}
 use Rattle.arithmetic.proofs.Zero.{is_zero_is, nonzero_pattern}
 use Rattle.operations.proofs.next.next_down.Goals as goal
 

@@ -1,5 +1,5 @@
 -- The tests tell which case of the definition it is.
-use mathlib.Core.Path.{◌≡◌, refl, sym, ap, ◌∙◌, subst}
+use mathlib.Core.Path.{◌≡◌, refl, sym, ap, ◌∙◌}
 use Prim.Native.Nat.{ℕ, ◌*◌}
 use native.Mathlib.Nat.{mul-pos, eq-zero-or-pos}
 use native.Mathlib.Omega.{arith}

@@ -112,11 +112,11 @@ returns-then-place-k c =
     let e = c.floor-k.ensures in
     λ a l h. c.failed-then-place-k.ensures ∙ sym (elim c.then-place-k.branch [
       | then-place-k-via-then-place-k w ↦
-        floor_below (places v) o (value (place v.lower)) inside (λ j. R.exp_of Rules.rules v j)
-        (lower_less v c.add-place.result o is (k v) (normal_float (k v) (k_normal v b)) _ (k_back v b c.floor-k.result e) w.if-place-k.true)
+          floor_below (places v) o (value (place v.lower)) inside (λ j. R.exp_of Rules.rules v j)
+          (lower_less v c.add-place.result o is (k v) (normal_float (k v) (k_normal v b)) _ (k_back v b c.floor-k.result e) w.if-place-k.true)
       | then-place-k-via-else-place-k+then-k-place w ↦
-        floor_above (places v) o (value (place v.lower)) inside (λ j. R.exp_of Rules.rules v j)
-        (upper_at_least v c.add-place.result o is (suc_ℤ (k v)) (next_float (k v) (k_normal v b)) _ (next_back v b c.floor-k.result e) w.if-k-place.true)
+          floor_above (places v) o (value (place v.lower)) inside (λ j. R.exp_of Rules.rules v j)
+          (upper_at_least v c.add-place.result o is (suc_ℤ (k v)) (next_float (k v) (k_normal v b)) _ (next_back v b c.floor-k.result e) w.if-k-place.true)
     ])
 
 pub overflow_add-k : goal.overflow_add-k
