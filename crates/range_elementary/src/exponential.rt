@@ -1,5 +1,5 @@
 // exp, powf and tanh of ranges, by the recipes of document 01.
-ghost use Rattle.std.specs.Prelude.{◌≡◌, Float, true, false, cond, ◌&&◌, T, pos, negsuc};
+ghost use Rattle.std.specs.Prelude.{◌≡◌, Float, true, false, cond, T, pos, negsuc};
 ghost use Rattle.std.specs.Int.Signed.{le_z};
 ghost use Rattle.std.specs.Float.Ieee as Ieee;
 ghost use Rattle.std.specs.Float.{binary64};
