@@ -1,5 +1,5 @@
 // exp, powf and tanh by the recipes of document 01.
-ghost use Rattle.std.specs.Prelude.{◌≡◌, false, T, pos, negsuc, int_le};
+ghost use Rattle.std.specs.Prelude.{◌≡◌, false, T, pos, negsuc};
 ghost use Rattle.std.specs.Float.{fin};
 ghost use Rattle.std.specs.Float.Ieee.Scale.{finite};
 ghost use Rattle.arithmetic.specs.Fraction.{◌≼◌, ◌≺◌, whole};

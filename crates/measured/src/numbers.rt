@@ -1,5 +1,5 @@
 // Every operation of a number type, by number.
-ghost use Rattle.std.specs.Prelude.{◌≡◌, [], Float};
+ghost use Rattle.std.specs.Prelude.{◌≡◌, []};
 ghost use Rattle.std.specs.Float.{nan};
 ghost use Rattle.measured.specs.Applied.{applied};
 

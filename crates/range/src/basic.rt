@@ -1,7 +1,5 @@
 // The struct of two ends, and the rules of negation, sum, difference, product, quotient, power, root and the case at a threshold.
 ghost use Rattle.std.specs.Prelude.{◌≡◌, T, cond, Float};
-ghost use Rattle.std.specs.Float.Ieee as Ieee;
-ghost use Rattle.std.specs.Float.{binary64};
 ghost use Rattle.std.specs.Float.Ieee.{lt, le};
 ghost use Rattle.std.specs.Float.Ieee.Scale.{finite};
 ghost use Rattle.arithmetic.specs.Basic.{above};

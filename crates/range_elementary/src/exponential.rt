@@ -1,6 +1,5 @@
 // exp, powf and tanh of ranges, by the recipes of document 01.
-ghost use Rattle.std.specs.Prelude.{◌≡◌, Float, true, false, cond, T, pos, negsuc};
-ghost use Rattle.std.specs.Int.Signed.{le_z};
+ghost use Rattle.std.specs.Prelude.{◌≡◌, Float, true, false, cond};
 ghost use Rattle.std.specs.Float.Ieee as Ieee;
 ghost use Rattle.std.specs.Float.{binary64};
 ghost use Rattle.std.specs.Float.Ieee.{lt, eq};
@@ -9,7 +8,7 @@ ghost use Rattle.arithmetic.specs.Constants as K;
 ghost use Rattle.arithmetic.specs.Recipes as R;
 ghost use Rattle.range_elementary.specs.Moderate.{moderate};
 ghost use Rattle.range.specs.Rules as Rules;
-ghost use Rattle.range.specs.Rules.{rules, ranges, before, after};
+ghost use Rattle.range.specs.Rules.{rules, ranges};
 ghost use Rattle.elementary.specs.Exponents.{Normal};
 
 use crate::logarithm::ln;
