@@ -1,6 +1,5 @@
 // Plain doubles as a number type.
-ghost use Rattle.std.specs.Prelude.{◌≡◌, T, Float, refl};
-ghost use Rattle.std.specs.Float.Ieee.Scale.{finite};
+ghost use Rattle.std.specs.Prelude.{◌≡◌, Float, refl};
 ghost use Rattle.std.proofs.Common.{lit≤};
 ghost use Rattle.arithmetic.specs.Doubles.{guarded};
 ghost use Rattle.arithmetic.proofs.Repeated.{empty_sum, longer_sum, single_factor};
