@@ -170,18 +170,6 @@ read_written h m t rest l p = (
   length-append (record_bytes h m t) rest ∙ ap (λ (n : ℕ). n + length rest) (record_length h m t),
 )
 
--- and for the record alone
-pub read_alone : (h : Header) (m : Mixture) (t : State Float) → h.n ≤ 8 → Padded h.n m t
-    → let s = record_bytes h m t in (header_of s ≡ h) × (mixture_of s h ≡ m) × (state_of s h ≡ t) × (length_field s ≡ length_of h) × (length s ≡ 2 + length_of h)
-read_alone h m t l p =
-    let e : record_bytes h m t ++ [] ≡ record_bytes h m t = append-nil (record_bytes h m t) in (
-      ap header_of (sym e) ∙ header_read h m t [],
-      ap (λ (s : List ℕ). mixture_of s h) (sym e) ∙ mixture_read h m t [] p,
-      ap (λ (s : List ℕ). state_of s h) (sym e) ∙ state_read h m t [] p,
-      ap length_field (sym e) ∙ length_read h m t [] l,
-      record_length h m t,
-    )
-
 -- the case that is read
 pub case_read : (h : Header) (m : Mixture) (t : State Float) (rest : List ℕ) → Padded h.n m t
     → case_of (record_bytes h m t ++ rest) ≡ record { perturbation = perturbation_of h.perturbation; mixture = m; state = t }

@@ -18,18 +18,6 @@ use Rattle.case_record.specs.Writing.{double_of, header_bytes, record_bytes}
 use Rattle.case_record.proofs.Sizes.{few_doubles}
 use Rattle.case_record.proofs.Rows.{length_values}
 
--- ---- the header
-two_bytes : (n : ℕ) → n < 65536 → bytes_of n 2 ≡ n / 256 ∷ n % 256 ∷ []
-unfolding bytes_of
-two_bytes n h =
-    let e : n / 256 % 256 ≡ n / 256 = omega arith in
-    let f : n / 1 % 256 ≡ n % 256 = omega arith in
-    rw (e, f)
-
-pub header_written : (h : Header) (n : ℕ) → h.n ≤ 8 → n ≡ length_of h → n / 256 ∷ n % 256 ∷ h.version ∷ h.perturbation ∷ h.n ∷ [] ≡ header_bytes h
-header_written h n l e =
-    rw e (ap (λ (b : List ℕ). b ++ (h.version ∷ h.perturbation ∷ h.n ∷ [])) (sym (two_bytes (length_of h) (omega (arith, few_doubles h l)))))
-
 -- ---- the doubles
 pub double_more : (l : List ℕ) (f : ℕ → Float) → 5 ≤ length l → (k : ℕ) {l₁ l₂ : List ℕ} → l₁ ≡ written l (begun l 5 (values k f))
     → l₂ ≡ take (5 + 8 * k) l₁ ++ double_bytes (f k) ++ drop (5 + 8 * k + 8) l₁
@@ -42,13 +30,3 @@ pub whole_record : (l : List ℕ) (h : Header) (m : Mixture) (t : State Float) {
     → l₂ ≡ written l (record_bytes h m t)
 unfolding bytes_of
 whole_record l h m t e₁ e₂ = e₂ ∙ rw e₁ (again (header_bytes h) (doubles_bytes (values (layout_of h).doubles (double_of h m t))) l)
-
--- what is written are bytes
-pub record_bytes_below : (h : Header) (m : Mixture) (t : State Float) → h.version < 256 → h.perturbation < 256 → h.n ≤ 8 → (i : ℕ) → get_or (record_bytes h m t) i 0 < 256
-record_bytes_below h m t v p n = append_below (bytes_of (length_of h) 2) _ (bytes_below (length_of h) 2) behind
-  where
-    behind : (i : ℕ) → get_or (h.version ∷ h.perturbation ∷ h.n ∷ doubles_bytes (values (layout_of h).doubles (double_of h m t))) i 0 < 256
-    behind zero = v
-    behind (suc zero) = p
-    behind (suc (suc zero)) = omega arith
-    behind (suc (suc (suc i))) = doubles_below (values (layout_of h).doubles (double_of h m t)) i

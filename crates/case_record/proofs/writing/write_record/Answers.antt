@@ -16,7 +16,7 @@ loop-k-init c =
 
 pub loop-k-preserved : goal.loop-k-preserved
 loop-k-preserved c =
-    let a = c.args.c in
+    let a = c.args.c.now in
     let l = c.put_header.new.out in
     let h : 5 ≤ length l = omega arith in
     -- the loop goes to the number of doubles
@@ -27,7 +27,7 @@ loop-k-preserved c =
 
 pub returns : goal.returns
 returns c =
-    let a = c.args.c in
+    let a = c.args.c.now in
     let to_the_end : c.layout_of-k-end.result.doubles ≡ (layout_of a.header).doubles = ap (λ (l : Layout). l.doubles) c.layout_of-k-end.ensures in
     let e : c.loop-k.k ≡ (layout_of a.header).doubles = omega arith in
     whole_record c.args.out.now a.header a.mixture a.state c.put_header.ensures (rw e at c.loop-k.invariant.0)
