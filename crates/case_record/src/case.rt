@@ -35,6 +35,7 @@ impl<'a> WholeRecord<'a> {
     }
 
     // Puts the doubles at first, first + step, .. into `out`.
+    #[tactic(auto, unfolding(crate::specs::Record::values), using(crate::proofs::Rows::value_more))]
     fn read_column(&self, first: usize, step: usize, out: &mut [f64])
         requires { (i : ℕ) → i < length out.old → 13 + 8 * (first + step * i) ≤ length self.now.bytes.now }
         ensures { out.new ≡ values (length out.old) (column self.now.bytes.now first step) }
@@ -45,6 +46,7 @@ impl<'a> WholeRecord<'a> {
     }
 
     // The first n of them in an array, with +0 behind them.
+    #[tactic(auto, using(crate::proofs::Rows::filled))]
     fn row<const SIZE: usize>(&self, first: usize, step: usize, n: usize) -> [f64; SIZE]
         requires { (n ≤ SIZE) × ((i : ℕ) → i < n → 13 + 8 * (first + step * i) ≤ length self.now.bytes.now) }
         ensures { result ≡ row SIZE n (column self.now.bytes.now first step) }

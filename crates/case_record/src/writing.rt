@@ -65,6 +65,7 @@ fn put_header(out: &mut [u8], h: Header)
 }
 
 // Writes the record over the buffer's first bytes.
+#[tactic(auto, unfolding(crate::specs::Record::values), using(crate::proofs::Pieces::whole_record, big_endian::proofs::Written::none_yet))]
 pub fn write_record(out: &mut [u8], c: &Contents)
     requires { 2 + length_of c.now.header ≤ length out.old }
     ensures { out.new ≡ written out.old (record_bytes c.now.header c.now.mixture c.now.state) }

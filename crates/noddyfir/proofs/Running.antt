@@ -54,7 +54,7 @@ pub whole_is : (s : List ℕ) {size : ℕ} → next_of s ≡ Whole size → 2 + 
 whole_is s e = let n = 2 + big_endian s 0 2 in (is_whole (eqb (length s) 0) (leb 2 (length s)) (leb n (length s)) n e).2
 
 -- ---- the loop of a run
-pub after_after : (k n m l : ℕ) (a b : List ℕ) (o : Outcome) → after k n a (after m l b o) ≡ after (k + m) (n + l) (a ++ b) o
+after_after : (k n m l : ℕ) (a b : List ℕ) (o : Outcome) → after k n a (after m l b o) ≡ after (k + m) (n + l) (a ++ b) o
 after_after k n m l a b o = simp (add_assoc, append_assoc, length-append)
 
 module _ (room : ℕ) (answer : List ℕ → List ℕ) where
