@@ -16,9 +16,6 @@ use Rattle.noddyfir.specs.Run.{Next, UsedUp, Broken, Whole, Outcome, after, next
 
 -- ---- the front of the bytes left
 module _ (t : List ℕ) where
-  pub used_up : length t ≡ 0 → next_of t ≡ UsedUp
-  used_up e = simp (eq-eqb (length t) 0 e)
-
   pub short : 0 < length t → length t < 2 → next_of t ≡ Broken
   short p h = simp (ne_eqb (length t) 0 (λ e. omega arith), lt-leb 2 (length t) h)
 
