@@ -11,7 +11,7 @@ use range::basic::Range;
 use refusal::Refusal;
 
 // The answer of a case: what a kind of call gives of hard sphere, reference and attractive, in this order, or why it refuses.
-#[derive(Clone, Copy)]
+#[derive(Clone, Copy, Debug, PartialEq)]
 pub enum Answer {
     Energies(f64, f64, f64),
     Ends(Range, Range, Range),

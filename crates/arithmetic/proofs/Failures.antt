@@ -17,6 +17,7 @@ use Rattle.arithmetic.specs.Arithmetic.{over, power_by, sum_by}
 use Rattle.arithmetic.specs.Root.{sqrt}
 use Rattle.arithmetic.specs.Doubles.{checked, strict, doubles}
 use Rattle.arithmetic.specs.Failures.{KeepsFailure, KeepsFailures}
+use Rattle.arithmetic.proofs.Nan.{add_nan, mul_nan, div_nan}
 
 module _ (A : Basic) (Well : A.Value → Type 0) (K : KeepsFailure A Well) (root : A.Value → A.Value) (root_kept : (x : A.Value) → Well (root x) → Well x) where
   powi_kept : (x : A.Value) (k : ℕ) → Well (power_by (A.constant one) A.mul x (suc k)) → Well x
@@ -35,12 +36,9 @@ module _ (A : Basic) (Well : A.Value → Type 0) (K : KeepsFailure A Well) (root
       let w = K.test _ x _ _ h in
       (w.0, elim w.1 [ inl k ↦ (K.mul y _ (exp_kept _ k)).0 | inr k ↦ elim (K.test _ x _ _ k).1 [ inl z ↦ absurd (K.none z) | inr z ↦ (K.test _ y _ _ z).0 ] ])
 
-  no_place : (i : ℕ) → i < 0 → ⊥
-  no_place i l = omega (arith, l)
-
   sum_kept : (n : ℕ) (f : ℕ → A.Value) → Well (sum_by (A.constant zero_d) A.add n f) → (i : ℕ) → i < n → Well (f i)
   unfolding sum_by
-  sum_kept zero f h i l = absurd (no_place i l)
+  sum_kept zero f h i l = absurd (omega (arith, l))
   sum_kept (suc n) f h i l =
       let w = K.add _ (f n) h in
       elim (eq-or-lt_of_le l) [ inl e ↦ subst (λ (j : ℕ). Well (f j)) (omega (arith, e)) w.1 | inr k ↦ sum_kept n f w.0 i (omega (arith, k)) ]
@@ -86,24 +84,6 @@ two_kept op e e' x y h = (
   other x (λ z. nan_fails (subst (λ (w : Float). Real (checked w)) (ap (λ (w : Float). op w y) z ∙ e y) h)),
   other y (λ z. nan_fails (subst (λ (w : Float). Real (checked w)) (ap (op x) z ∙ e' x) h)),
 )
-
-add_nan : (x : Float) → Ieee.add binary64 x nan ≡ nan
-unfolding Ieee.add
-add_nan nan = refl
-add_nan (inf s) = refl
-add_nan (fin s m e) = refl
-
-mul_nan : (x : Float) → Ieee.mul binary64 x nan ≡ nan
-unfolding Ieee.mul
-mul_nan nan = refl
-mul_nan (inf s) = refl
-mul_nan (fin s m e) = refl
-
-div_nan : (x : Float) → Ieee.div binary64 x nan ≡ nan
-unfolding Ieee.div
-div_nan nan = refl
-div_nan (inf s) = refl
-div_nan (fin s m e) = refl
 
 where_kept : (x y : Float) → Real (cond (finite x) y nan) → Real x × Real y
 unfolding is_nan

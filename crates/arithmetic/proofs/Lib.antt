@@ -16,6 +16,7 @@ pub mod Tests
 pub mod Exact
 pub mod Both
 pub mod Agreement
+pub mod Nan
 pub mod Failures
 pub mod Rows
 pub mod Example

@@ -9,7 +9,7 @@ use mathlib.Core.Bool.{Bool, true, false, not}
 use lib.IntN.{negsuc}
 use lib.Dec.{T, leb, leb→le, nleb→lt}
 use lib.Pow.{pow-add, pow_pos, pow_mono}
-use lib.Ieee.{Float, nan, inf, fin, binary64, fits, of_bits, to_bits}
+use lib.Ieee.{Float, binary64, fits, of_bits, to_bits}
 use lib.Ieee.Digits.{back}
 use lib.Ieee.Bits.{of_bits-to_bits}
 use lib.Ieee.Exact.{HasValue}
@@ -17,6 +17,7 @@ use lib.Ieee.Scale.{finite}
 use Rattle.arithmetic.specs.Fraction.{Fraction, ◌≼◌, ◌≺◌, null, two_to, ◌⊕◌, ◌⊗◌}
 use Rattle.arithmetic.specs.Value.{signed, value, sign}
 use Rattle.arithmetic.specs.Root.{root, sqrt}
+use Rattle.arithmetic.proofs.Exact.{has_value_finite}
 use Rattle.arithmetic.proofs.Fraction.{≼_trans, ≼-≺-trans, ≺-≼-trans, ≼-or-≻, ≺→≼, ≺-not-≼, ⊕-mono, ⊗-mono, ⊗-swap}
 use Rattle.arithmetic.proofs.Value.{value_is}
 use Rattle.arithmetic.proofs.Zero.{minus_value, positive_pattern}
@@ -186,11 +187,6 @@ module _ (x : Float) (w : Worked x) where
   if_greater y false k g v l = let a = value_is y false k u U v in greater y k g (less u U q k (≼-≺-trans of_root.1 (≺-≼-trans l a.0))) a.1
   if_greater y true k g v l = absurd (≺-not-≼ l (≼_trans (minus_value y k u U v) (≼_trans (record { cross = omega arith }) of_root.1)))
 
-has_number : (r : Float) (s : Bool) (a c : ℕ) → HasValue r s a c → T (finite r)
-has_number nan s a c v = v
-has_number (inf t) s a c v = v
-has_number (fin t m e) s a c v = tt
-
 -- `sqrt` of a positive double
 pub sqrt_nearest : (x : Float) → T (fits binary64 x) → T (finite x) → null ≺ value x → Nearest x (sqrt x)
 unfolding u
@@ -198,7 +194,7 @@ sqrt_nearest x f p z =
     let w = worked x f p z in
     record {
       double = w.double;
-      number = has_number (sqrt x) false _ _ w.result;
+      number = has_value_finite (sqrt x) false _ _ w.result;
       below = λ y g q. (let v = in_units binary64 y g q in if_smaller x w y (sign y) (v.0 * 2 ^ v.1) (near v.0 v.1 w.j v.2) v.3);
       above = λ y g q. (let v = in_units binary64 y g q in if_greater x w y (sign y) (v.0 * 2 ^ v.1) (near v.0 v.1 w.j v.2) v.3);
     }

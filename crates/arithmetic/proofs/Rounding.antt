@@ -23,9 +23,6 @@ use Rattle.arithmetic.proofs.Fraction.{≺→≼, ≼-or-≻}
 use Rattle.arithmetic.proofs.Value.{≼→le, le_trans, neg_le}
 
 -- ---- by the three cases
-no_loop : (a : ℕ) → a < a → ⊥
-no_loop a h = omega arith
-
 lt→nltb : (a b : ℕ) → b ≤ a → ltb a b ≡ false
 lt→nltb a b h = is_false (ltb a b) (lib.Arith.le→nltb a b h)
 
@@ -213,10 +210,6 @@ held f z (fin s (suc m) e) p h =
     go false k = rw (rounded_over f z (value (fin false (suc m) e)) (mul-pos (zero-lt-suc m) (up_pos e)), sub-zero (suc m * up e)) k
 
 -- ---- the operations: the exact result, rounded
-add_is_sum : (f : Format) (s : Bool) (m : ℕ) (e : ℤ) (t : Bool) (n : ℕ) (d : ℤ) → add f (fin s m e) (fin t n d) ≡ sum f s (m * up e * down d) t (n * up d * down e) (down e * down d)
-unfolding add
-add_is_sum f s m e t n d = refl
-
 -- a result with one sign, from the fraction's parts
 nonneg_is : (f : Format) (q : Fraction) (k c : ℕ) → q.plus ≡ k → q.minus ≡ 0 → q.den ≡ c → round f false k c ≡ rounded f false q
 nonneg_is f q k c p n d = ap₂ (round f false) (omega arith) (sym d) ∙ sym (rounded_nonneg f q (omega arith))

@@ -18,7 +18,7 @@ use Rattle.arithmetic.proofs.Agreement as Values
 use Rattle.dual.specs.declared.basic.Dual.{Dual}
 use Rattle.dual.specs.Rules as Rules
 use Rattle.dual.specs.Rules.{dual, failed, ok, strict, plain, slopes, guarded_slopes}
-use Rattle.dual.proofs.Nan.{either_nan, add_nan, sub_nan, mul_nan, div_nan}
+use Rattle.arithmetic.proofs.Nan.{either_nan, add_nan, sub_nan, mul_nan, div_nan}
 
 -- what is not finite is NaN, and a slope with its value
 abbrev pub checked_dual : Dual → Dual

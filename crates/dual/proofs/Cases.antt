@@ -14,7 +14,7 @@ use Rattle.arithmetic.specs.Doubles.{quotient}
 use Rattle.arithmetic.proofs.Tests.{below_is, above_is}
 use Rattle.dual.specs.declared.basic.Dual.{Dual}
 use Rattle.dual.specs.Rules.{dual, failed, plain, choose, given, within, constant, add, sub, mul, div, ln, exp, powf, tanh}
-use Rattle.dual.proofs.Nan.{either_nan, mul_nan}
+use Rattle.arithmetic.proofs.Nan.{either_nan, mul_nan}
 
 limits : T (finite zero_d) × T (finite twenty) × T (finite minus_twenty)
 unfolding of_bits Ieee.neg

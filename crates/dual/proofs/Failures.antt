@@ -221,12 +221,9 @@ unfolding power_by
 powi_kept x zero h = h
 powi_kept x (suc k) h = (mul_kept (slopes.powi x (suc k)) x h).1
 
-no_place : (i : ℕ) → i < 0 → ⊥
-no_place i l = omega (arith, l)
-
 sum_kept : (n : ℕ) (f : ℕ → Dual) → Sloped (slopes.sum n f) → (i : ℕ) → i < n → Sloped (f i)
 unfolding sum_by
-sum_kept zero f h i l = absurd (no_place i l)
+sum_kept zero f h i l = absurd (omega (arith, l))
 sum_kept (suc n) f h i l =
     let w = add_kept (slopes.sum n f) (f n) h in
     elim (eq-or-lt_of_le l) [ inl e ↦ subst (λ (j : ℕ). Sloped (f j)) (omega (arith, e)) w.1 | inr k ↦ sum_kept n f w.0 i (omega (arith, k)) ]

@@ -1,5 +1,4 @@
 -- The laws of the rules.
-pub mod Nan
 pub mod Constants
 pub mod Cases
 pub mod Values

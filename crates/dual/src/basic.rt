@@ -9,7 +9,7 @@ use operations::root::sqrt;
 use std::ops::{Add, Div, Mul, Neg, Sub};
 
 // A value and its slope along total density.
-#[derive(Clone, Copy)]
+#[derive(Clone, Copy, Debug, PartialEq)]
 pub struct Dual {
     pub value: f64,
     pub slope: f64,
@@ -42,10 +42,7 @@ impl Dual {
     pub fn is_ok(self) -> bool
         ensures { result ≡ Rules.ok self }
     {
-        if is_finite(self.value) {
-            return is_finite(self.slope);
-        }
-        false
+        is_finite(self.value) && is_finite(self.slope)
     }
 
     // self * self * .. from the left, k factors; with none it is 1.

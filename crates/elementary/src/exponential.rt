@@ -1,5 +1,5 @@
 // exp, powf and tanh by the recipes of document 01.
-ghost use Rattle.std.specs.Prelude.{◌≡◌, false, T, pos, negsuc, int_le};
+ghost use Rattle.std.specs.Prelude.{◌≡◌, false, T, pos, negsuc};
 ghost use Rattle.std.specs.Float.{fin};
 ghost use Rattle.std.specs.Float.Ieee.Scale.{finite};
 ghost use Rattle.arithmetic.specs.Fraction.{◌≼◌, ◌≺◌, whole};
@@ -11,7 +11,7 @@ ghost use Rattle.elementary.specs.Exponents.{Normal};
 
 use crate::logarithm::ln;
 use crate::series::horner;
-use operations::basic::{div, is_finite};
+use operations::basic::{div, is_finite, where_finite};
 
 // log2 e, and ln 2 in two parts.
 pub const E: f64 = 1.4426950408889634;
@@ -76,10 +76,7 @@ pub fn exp(v: f64) -> f64
     ensures { result ≡ guarded.exp v }
 {
     if v < -700.0 {
-        if is_finite(v) {
-            return 0.0;
-        }
-        return 0.0 / 0.0;
+        return where_finite(v, 0.0);
     }
     if v <= 700.0 {
         return exp_of(v, floor(v * E + 0.5));
@@ -97,12 +94,8 @@ pub fn powf(v: f64, b: f64) -> f64
     if v < 0.0 {
         return 0.0 / 0.0;
     }
-    if is_finite(v) {
-        if b > 0.0 {
-            if is_finite(b) {
-                return 0.0;
-            }
-        }
+    if is_finite(v) && b > 0.0 && is_finite(b) {
+        return 0.0;
     }
     0.0 / 0.0
 }

@@ -43,7 +43,7 @@ fn series(s: f64) -> f64
 }
 
 // m * 2^e with 0.75 <= m < 1.5.
-#[derive(Clone, Copy)]
+#[derive(Clone, Copy, Debug, PartialEq)]
 pub struct Reduced {
     pub m: f64,
     pub e: i64,
@@ -82,11 +82,9 @@ fn ln_of(m: f64, e: i64) -> f64
 pub fn ln(v: f64) -> f64
     ensures { result ≡ guarded.ln v }
 {
-    if v > 0.0 {
-        if is_finite(v) {
-            let p = split(f64::to_bits(v));
-            return ln_of(p.m, p.e);
-        }
+    if v > 0.0 && is_finite(v) {
+        let p = split(f64::to_bits(v));
+        return ln_of(p.m, p.e);
     }
     0.0 / 0.0
 }

@@ -12,8 +12,8 @@ pub fn horner<V: Copy + From<f64>, S: Fn(V, f64) -> V>(c: &[f64], step: S) -> V
 {
     let last = c.len() - 1;
     let mut p = V::from(c[last]);
-    for k in (0..last).rev() {
-        p = step(p, c[k]);
+    for x in c[..last].iter().rev() {
+        p = step(p, *x);
     }
     p
 }

@@ -1,12 +1,12 @@
 // uvtheory/eos/mod.rs: the contributions of a perturbation.
-ghost use Rattle.std.specs.Prelude.{◌≡◌, ◌≤◌};
+ghost use Rattle.std.specs.Prelude.{◌≡◌};
 ghost use Rattle.uvtheory.specs.Inputs.{state_of};
 ghost use Rattle.eos.specs.Contributions.{contributions};
 
 use num_dual::dual_num::DualNum;
 use uvtheory::contributions::Contributions;
 use uvtheory::eos::Perturbation;
-use uvtheory::parameters::{Mixture, State};
+use uvtheory::parameters::{Mixture, State, UVTheoryPars};
 
 // Of a mixture as sent, on any state.
 #[tactic(auto, unfolding(crate::specs::Contributions::contributions, uvtheory::specs::Eos::residual_helmholtz_energy_contributions))]
@@ -15,16 +15,18 @@ pub fn contributions<D: DualNum>(
     m: &Mixture,
     s: &State<D>,
 ) -> Contributions<D>
-    requires { m.now.n ≤ 8 }
     ensures { result ≡ contributions D.arithmetic perturbation m.now (state_of D.arithmetic s.now) }
 {
+    let p = UVTheoryPars::new(m);
     match perturbation {
-        Perturbation::BarkerHenderson => uvtheory_bh::residual_helmholtz_energy_contributions(m, s),
+        Perturbation::BarkerHenderson => {
+            uvtheory_bh::residual_helmholtz_energy_contributions(&p, s)
+        }
         Perturbation::WeeksChandlerAndersen => {
-            uvtheory_wca::residual_helmholtz_energy_contributions(m, s)
+            uvtheory_wca::residual_helmholtz_energy_contributions(&p, s)
         }
         Perturbation::WeeksChandlerAndersenB3 => {
-            uvtheory_b3::residual_helmholtz_energy_contributions_b3(m, s)
+            uvtheory_b3::residual_helmholtz_energy_contributions_b3(&p, s)
         }
     }
 }

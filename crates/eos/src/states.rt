@@ -8,6 +8,7 @@ ghost use Rattle.eos.specs.Slopes as Slopes;
 use dual::basic::Dual;
 use num_dual::dual_num::DualNum;
 use uvtheory::arrays::{constants, each};
+use uvtheory::components::Components;
 use uvtheory::parameters::State;
 
 // As sent.
@@ -41,7 +42,7 @@ pub fn started(s: &State<f64>) -> State<Dual>
     State {
         temperature: Dual::from(s.temperature),
         partial_density: each(
-            8,
+            Components::new(8),
             |i: usize| -> Dual
                 requires { i < 8 }
                 ensures { result ≡ start plain (doubles d i) (doubles x i) }

@@ -1,7 +1,7 @@
 // Every operation of a number type, by number.
-ghost use Rattle.std.specs.Prelude.{◌≡◌, [], Float};
+ghost use Rattle.std.specs.Prelude.{◌≡◌, []};
 ghost use Rattle.std.specs.Float.{nan};
-ghost use Rattle.measured.specs.Applied.{where_below, applied};
+ghost use Rattle.measured.specs.Applied.{applied};
 
 use num_dual::dual_num::DualNum;
 use operations::basic::is_finite;
@@ -12,16 +12,6 @@ fn failed<D: DualNum>() -> D
     ensures { result ≡ D.arithmetic.constant nan }
 {
     D::from(0.0 / 0.0)
-}
-
-// a where it is below t, else b.
-fn where_below<D: DualNum>(t: f64, a: D, b: D) -> D
-    ensures { result ≡ where_below D.arithmetic (D.arithmetic.constant nan) t a b }
-{
-    if is_finite(t) {
-        return a.if_below(t, a, b);
-    }
-    failed()
 }
 
 // The operation that op numbers, of a, and of b where it takes two. The exponent of powi is k; t is the limit of the last.
@@ -42,7 +32,7 @@ pub fn apply<D: DualNum>(op: u64, k: u64, t: f64, a: D, b: D) -> D
         9 => a.exp(),
         10 => a.powf(b),
         11 => a.tanh(),
-        12 => where_below(t, a, b),
+        12 if is_finite(t) => a.if_below(t, a, b),
         _ => failed(),
     }
 }

@@ -1,21 +1,11 @@
 // Every operation of ranges under two C names, one for each end of the result, for the comparison with an independent implementation of the rules (measure/ranges.py).
 ghost use Rattle.std.specs.Prelude.{◌≡◌};
 ghost use Rattle.range.specs.Rules as Rules;
-ghost use Rattle.measured.specs.Applied.{where_above, of_ranges};
+ghost use Rattle.measured.specs.Applied.{of_ranges};
 
 use crate::numbers::apply;
 use operations::basic::is_finite;
 use range::basic::{Range, failed};
-
-// a where the whole of it is above t, b where none of it is.
-fn where_above(t: f64, a: Range, b: Range) -> Range
-    ensures { result ≡ where_above t a b }
-{
-    if is_finite(t) {
-        return a.if_above(t, a, b);
-    }
-    failed()
-}
 
 // The operation that op numbers, of the ends of two ranges; ranges alone have the last.
 #[tactic(auto, using(range::proofs::Constants::nan_constant, crate::proofs::Last::last_of_ranges, crate::proofs::Last::before_last))]
@@ -31,7 +21,11 @@ fn applied(op: u64, k: u64, t: f64, a_lower: f64, a_upper: f64, b_lower: f64, b_
         upper: b_upper,
     };
     if op == 13 {
-        return where_above(t, a, b);
+        return if is_finite(t) {
+            a.if_above(t, a, b)
+        } else {
+            failed()
+        };
     }
     apply(op, k, t, a, b)
 }

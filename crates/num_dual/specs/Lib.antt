@@ -1,2 +1,2 @@
--- The trait of number types has its operations in crate arithmetic; here stand the numbers themselves, and a law of their powers.
+-- A law of the powers of a number type, which the trait asks of each (src/dual_num.rt).
 pub mod Powers

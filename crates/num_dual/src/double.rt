@@ -1,6 +1,5 @@
 // Plain doubles as a number type.
-ghost use Rattle.std.specs.Prelude.{◌≡◌, T, Float, refl};
-ghost use Rattle.std.specs.Float.Ieee.Scale.{finite};
+ghost use Rattle.std.specs.Prelude.{◌≡◌, Float, refl};
 ghost use Rattle.std.proofs.Common.{lit≤};
 ghost use Rattle.arithmetic.specs.Doubles.{guarded};
 ghost use Rattle.arithmetic.proofs.Repeated.{empty_sum, longer_sum, single_factor};
@@ -15,7 +14,7 @@ use std::marker::Model;
 use std::ops::{Add, Div, Mul, Neg, Sub};
 
 // A double whose quotient is the guarded one: by an infinity it would be a zero, and what is not finite would be lost. In contracts it is its value.
-#[derive(Clone, Copy)]
+#[derive(Clone, Copy, Debug, PartialEq)]
 pub struct Double {
     value: f64,
 }

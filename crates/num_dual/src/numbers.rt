@@ -1,6 +1,5 @@
 // Ranges and values with slopes as number types.
-ghost use Rattle.std.specs.Prelude.{◌≡◌, T, refl};
-ghost use Rattle.std.specs.Float.Ieee.Scale.{finite};
+ghost use Rattle.std.specs.Prelude.{refl};
 ghost use Rattle.std.proofs.Common.{lit≤};
 ghost use Rattle.arithmetic.proofs.Repeated.{empty_sum, longer_sum, single_factor};
 ghost use Rattle.num_dual.specs.Powers.{powers_by};

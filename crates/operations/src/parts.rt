@@ -9,7 +9,7 @@ ghost use Rattle.operations.specs.Patterns.{Positive};
 pub const LEADING: u64 = 0x10_0000_0000_0000;
 
 // sig * 2^exp units of 2^-1126. In that unit the smallest double still has a significand of 53 digits.
-#[derive(Clone, Copy)]
+#[derive(Clone, Copy, Debug, PartialEq, Eq)]
 pub struct Number {
     pub sig: u64,
     pub exp: u64,

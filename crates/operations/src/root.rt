@@ -35,7 +35,7 @@ fn step(s: State) -> State
 }
 
 // A root, as its 54 digits, as a double's pattern or as a double, and the rounds that it took.
-#[derive(Clone, Copy)]
+#[derive(Clone, Copy, Debug, PartialEq, Eq)]
 pub struct Counted<R> {
     pub root: R,
     pub rounds: u64,
@@ -59,7 +59,7 @@ fn digits(a: u64) -> Counted<u64>
     }
     Counted {
         root: s.root << (54 - rounds),
-        rounds: rounds,
+        rounds,
     }
 }
 
@@ -84,14 +84,12 @@ pub fn counted_sqrt(v: f64) -> Counted<f64>
     if v == 0.0 {
         return Counted { root: v, rounds: 0 };
     }
-    if v > 0.0 {
-        if is_finite(v) {
-            let r = root_bits(f64::to_bits(v));
-            return Counted {
-                root: f64::from_bits(r.root),
-                rounds: r.rounds,
-            };
-        }
+    if v > 0.0 && is_finite(v) {
+        let r = root_bits(f64::to_bits(v));
+        return Counted {
+            root: f64::from_bits(r.root),
+            rounds: r.rounds,
+        };
     }
     Counted {
         root: 0.0 / 0.0,

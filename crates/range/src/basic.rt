@@ -1,7 +1,5 @@
 // The struct of two ends, and the rules of negation, sum, difference, product, quotient, power, root and the case at a threshold.
 ghost use Rattle.std.specs.Prelude.{◌≡◌, T, cond, Float};
-ghost use Rattle.std.specs.Float.Ieee as Ieee;
-ghost use Rattle.std.specs.Float.{binary64};
 ghost use Rattle.std.specs.Float.Ieee.{lt, le};
 ghost use Rattle.std.specs.Float.Ieee.Scale.{finite};
 ghost use Rattle.arithmetic.specs.Basic.{above};
@@ -16,7 +14,7 @@ use operations::root::sqrt;
 use std::ops::{Add, Div, Mul, Neg, Sub};
 
 // Two ends. A range whose rule failed has ends that are NaN.
-#[derive(Clone, Copy)]
+#[derive(Clone, Copy, Debug, PartialEq)]
 pub struct Range {
     pub lower: f64,
     pub upper: f64,
@@ -46,10 +44,7 @@ fn plus_zero(x: f64) -> f64
 pub fn ends(l: f64, u: f64) -> Range
     ensures { result ≡ Rules.ends l u }
 {
-    if !is_finite(l) {
-        return failed();
-    }
-    if !is_finite(u) {
+    if !is_finite(l) || !is_finite(u) {
         return failed();
     }
     Range {
@@ -76,12 +71,8 @@ pub fn neighbours(l: f64, u: f64) -> Range
 fn outwards(l: f64, u: f64) -> Range
     ensures { result ≡ Rules.outwards l u }
 {
-    if l > 0.0 {
-        if l <= u {
-            if u < LARGEST {
-                return neighbours(l, u);
-            }
-        }
+    if l > 0.0 && l <= u && u < LARGEST {
+        return neighbours(l, u);
     }
     outwards_below(l, u)
 }
@@ -92,17 +83,13 @@ fn outwards_below(l: f64, u: f64) -> Range
 {
     let a = -u;
     let b = -l;
-    if a > 0.0 {
-        if a <= b {
-            if b < LARGEST {
-                let n = neighbours(a, b);
-                if n.lower > 0.0 {
-                    return Range {
-                        lower: -n.upper,
-                        upper: -n.lower,
-                    };
-                }
-            }
+    if a > 0.0 && a <= b && b < LARGEST {
+        let n = neighbours(a, b);
+        if n.lower > 0.0 {
+            return Range {
+                lower: -n.upper,
+                upper: -n.lower,
+            };
         }
     }
     ends(next_down(l), next_up(u))
@@ -138,39 +125,21 @@ impl Range {
     pub fn is_ok(self) -> bool
         ensures { result ≡ Rules.ok self }
     {
-        if is_finite(self.lower) {
-            return is_finite(self.upper);
-        }
-        false
-    }
-
-    fn is_zero(self) -> bool
-        ensures { result ≡ Rules.is_zero self }
-    {
-        if self.lower == 0.0 {
-            return self.upper == 0.0;
-        }
-        false
+        is_finite(self.lower) && is_finite(self.upper)
     }
 
     // Whether its ends are above 0 and in order, as most are.
     pub fn is_positive(self) -> bool
         ensures { result ≡ positive self }
     {
-        if self.lower > 0.0 {
-            return self.lower <= self.upper;
-        }
-        false
+        self.lower > 0.0 && self.lower <= self.upper
     }
 
     // Whether it does not hold 0.
     fn is_apart(self) -> bool
         ensures { result ≡ Rules.apart self }
     {
-        if self.lower > 0.0 {
-            return true;
-        }
-        self.upper < 0.0
+        self.lower > 0.0 || self.upper < 0.0
     }
 
     // self * self * .. from the left, k factors; with none it is 1.
@@ -188,7 +157,7 @@ impl Range {
         if !self.is_ok() {
             return failed();
         }
-        if self.is_zero() {
+        if self == Range::ZERO {
             return Range::ZERO;
         }
         if self.lower < 0.0 {
@@ -244,7 +213,7 @@ impl Neg for Range {
     }
 }
 
-// Most sums and products are of ranges above 0. These are worked here, short enough to be inlined; the others are calls that take the four ends.
+// Most sums and products are of ranges above 0. These are worked here, short enough to be inlined; the others are calls.
 impl Add for Range {
     type Output = Range;
 
@@ -253,20 +222,10 @@ impl Add for Range {
     fn add(self, other: Range) -> Range {
         let l = self.lower + other.lower;
         let u = self.upper + other.upper;
-        if self.lower > 0.0 {
-            if other.lower > 0.0 {
-                if l <= u {
-                    if u < LARGEST {
-                        return neighbours(l, u);
-                    }
-                }
-            }
+        if self.lower > 0.0 && other.lower > 0.0 && l <= u && u < LARGEST {
+            return neighbours(l, u);
         }
-        let sum = sum_of(self.lower, self.upper, other.lower, other.upper);
-        Range {
-            lower: sum.lower,
-            upper: sum.upper,
-        }
+        sum_of(self, other)
     }
 }
 
@@ -286,22 +245,14 @@ impl Mul for Range {
     ghost mul_gives = { λ a b r. r ≡ ranges.mul a b };
 
     fn mul(self, other: Range) -> Range {
-        if self.is_positive() {
-            if other.is_positive() {
-                let l = self.lower * other.lower;
-                let u = self.upper * other.upper;
-                if l > 0.0 {
-                    if u < LARGEST {
-                        return neighbours(l, u);
-                    }
-                }
+        if self.is_positive() && other.is_positive() {
+            let l = self.lower * other.lower;
+            let u = self.upper * other.upper;
+            if l > 0.0 && u < LARGEST {
+                return neighbours(l, u);
             }
         }
-        let product = product_of(self.lower, self.upper, other.lower, other.upper);
-        Range {
-            lower: product.lower,
-            upper: product.upper,
-        }
+        product_of(self, other)
     }
 }
 
@@ -312,73 +263,42 @@ impl Div for Range {
 
     #[tactic(auto, unfolding(crate::specs::Rules::div))]
     fn div(self, other: Range) -> Range {
-        if !self.is_ok() {
+        if !self.is_ok() || !other.is_ok() || !other.is_apart() {
             return failed();
         }
-        if !other.is_ok() {
-            return failed();
-        }
-        if !other.is_apart() {
-            return failed();
-        }
-        if self.is_zero() {
+        if self == Range::ZERO {
             return Range::ZERO;
         }
         four(|a, b| a / b, self, other)
     }
 }
 
-// The sum of any two ranges, by their ends.
+// The sum of any two ranges.
 #[tactic(auto, unfolding(crate::specs::Rules::add))]
-pub fn sum_of(rl: f64, ru: f64, sl: f64, su: f64) -> Range
-    ensures { result ≡ ranges.add (Rules.range rl ru) (Rules.range sl su) }
+pub fn sum_of(r: Range, s: Range) -> Range
+    ensures { result ≡ ranges.add r s }
 {
-    let r = Range {
-        lower: rl,
-        upper: ru,
-    };
-    let s = Range {
-        lower: sl,
-        upper: su,
-    };
-    if !r.is_ok() {
+    if !r.is_ok() || !s.is_ok() {
         return failed();
     }
-    if !s.is_ok() {
-        return failed();
-    }
-    if r.is_zero() {
+    if r == Range::ZERO {
         return s;
     }
-    if s.is_zero() {
+    if s == Range::ZERO {
         return r;
     }
     outwards(r.lower + s.lower, r.upper + s.upper)
 }
 
-// The product of any two ranges, by their ends.
+// The product of any two ranges.
 #[tactic(auto, unfolding(crate::specs::Rules::mul))]
-pub fn product_of(rl: f64, ru: f64, sl: f64, su: f64) -> Range
-    ensures { result ≡ ranges.mul (Rules.range rl ru) (Rules.range sl su) }
+pub fn product_of(r: Range, s: Range) -> Range
+    ensures { result ≡ ranges.mul r s }
 {
-    let r = Range {
-        lower: rl,
-        upper: ru,
-    };
-    let s = Range {
-        lower: sl,
-        upper: su,
-    };
-    if !r.is_ok() {
+    if !r.is_ok() || !s.is_ok() {
         return failed();
     }
-    if !s.is_ok() {
-        return failed();
-    }
-    if r.is_zero() {
-        return Range::ZERO;
-    }
-    if s.is_zero() {
+    if r == Range::ZERO || s == Range::ZERO {
         return Range::ZERO;
     }
     four(|a, b| a * b, r, s)
@@ -388,16 +308,10 @@ pub fn product_of(rl: f64, ru: f64, sl: f64, su: f64) -> Range
 fn agreed(i: bool, j: bool, a: Range, b: Range) -> Range
     ensures { result ≡ Rules.agreed i j a b }
 {
-    if i {
-        if j {
-            return a;
-        }
-        return failed();
+    if i && j {
+        return a;
     }
-    if j {
-        return failed();
-    }
-    b
+    if i || j { failed() } else { b }
 }
 
 // The least and the greatest of four, moved outwards.

@@ -2,8 +2,8 @@
 use Prim.Native.Nat.{ℕ, ◌+◌, ◌*◌, ◌<◌}
 use native.Mathlib.Nat.{mul-lt-mul_of_pos_right}
 use native.Mathlib.Omega.{arith}
-use mathlib.Core.Path.{◌≡◌, refl, sym, subst}
-use mathlib.Core.Bool.{Bool, true, false}
+use mathlib.Core.Path.{◌≡◌, sym, subst}
+use mathlib.Core.Bool.{true, false}
 use mathlib.Core.Option.{none, some}
 use lib.IntN.{ℤ, neg_ℤ}
 use lib.Dec.{T}
@@ -16,15 +16,16 @@ use Rattle.arithmetic.specs.Value.{value}
 use Rattle.arithmetic.specs.Cases.{exponent_of}
 use Rattle.arithmetic.specs.Constants.{zero_d}
 use Rattle.arithmetic.specs.Doubles.{scaled}
-use Rattle.arithmetic.proofs.Fraction.{◌≈◌, ≼_trans, ≺-≼-trans, ≼-≺-trans, ≺-not-≼, ≺-irrefl}
+use Rattle.arithmetic.proofs.Fraction.{◌≈◌, ≼_trans, ≺-≼-trans, ≼-≺-trans, ≺-irrefl}
 use Rattle.arithmetic.proofs.Value.{le→≼}
 use Rattle.arithmetic.proofs.Tests.{not_at_least}
 use Rattle.arithmetic.proofs.Cases.{exponent_none}
 use Rattle.range.specs.declared.basic.Range.{Range}
 use Rattle.range.specs.Rules.{range, ok, ends, kept, scale}
 use Rattle.range.proofs.Corners.{lower_finite, upper_finite}
-use Rattle.range.proofs.Contained.{zero_is, zero_value, zero_number}
+use Rattle.range.proofs.Contained.{zero_is, zero_number}
 use Rattle.range.proofs.PowersOfTwo.{power, kept_exact}
+use Rattle.range.proofs.Positive.{above_nonzero}
 use Rattle.range.proofs.Testing.{has_ends}
 
 -- ---- above zero
@@ -39,13 +40,6 @@ positive_finite nan h = absurd (≺-irrefl h)
 positive_finite (inf s) h = absurd (≺-irrefl h)
 positive_finite (fin s m e) h = tt
 
-positive_nonzero : (x : Float) → T (fits binary64 x) → null ≺ value x → eq x zero_d ≡ false
-positive_nonzero x f h = go (eq x zero_d) refl
-  where
-    go : (b : Bool) → eq x zero_d ≡ b → b ≡ false
-    go true e = absurd (≺-not-≼ h (zero_value x f e).0)
-    go false e = refl
-
 -- ---- one end: m is x × 2^k
 module _ (x : Float) (k : ℤ) (m : Float) (f : T (fits binary64 x)) (p : T (finite x)) (z : null ≺ value x) (s : scaled x k ≡ m) (e : value m ≈ value x ⊗ power k) where
   above : null ≺ value m
@@ -55,7 +49,7 @@ module _ (x : Float) (k : ℤ) (m : Float) (f : T (fits binary64 x)) (p : T (fin
   end_finite = positive_finite m above
 
   end_nonzero : eq m zero_d ≡ false
-  end_nonzero = positive_nonzero m (subst (λ (y : Float). T (fits binary64 y)) s (mul-fits binary64 x (fin false 1 k))) above
+  end_nonzero = above_nonzero m (subst (λ (y : Float). T (fits binary64 y)) s (mul-fits binary64 x (fin false 1 k))) above
 
   end_kept : kept x k ≡ true
   end_kept = kept_exact x k f p (subst (λ (y : Float). T (finite y)) (sym s) end_finite) (subst (λ (y : Float). value y ≈ value x ⊗ power k) (sym s) e)

@@ -1,6 +1,5 @@
 // exp, powf and tanh of ranges, by the recipes of document 01.
-ghost use Rattle.std.specs.Prelude.{◌≡◌, Float, true, false, cond, ◌&&◌, T, pos, negsuc};
-ghost use Rattle.std.specs.Int.Signed.{le_z};
+ghost use Rattle.std.specs.Prelude.{◌≡◌, Float, true, false, cond};
 ghost use Rattle.std.specs.Float.Ieee as Ieee;
 ghost use Rattle.std.specs.Float.{binary64};
 ghost use Rattle.std.specs.Float.Ieee.{lt, eq};
@@ -9,7 +8,7 @@ ghost use Rattle.arithmetic.specs.Constants as K;
 ghost use Rattle.arithmetic.specs.Recipes as R;
 ghost use Rattle.range_elementary.specs.Moderate.{moderate};
 ghost use Rattle.range.specs.Rules as Rules;
-ghost use Rattle.range.specs.Rules.{rules, ranges, before, after};
+ghost use Rattle.range.specs.Rules.{rules, ranges};
 ghost use Rattle.elementary.specs.Exponents.{Normal};
 
 use crate::logarithm::ln;
@@ -61,20 +60,11 @@ fn exp_between(v: Range) -> Range
         → result ≡ rules.step floor (rules.add (rules.mul v (rules.constant K.E)) (rules.constant K.half)) (λ k. R.exp_of rules v k) }
 {
     let place = v * Range::from(E) + Range::from(0.5);
-    if !place.is_ok() {
-        return failed();
-    }
-    if v.lower < -700.0 {
-        return failed();
-    }
-    if !(v.lower <= 700.0) {
+    if !place.is_ok() || v.lower < -700.0 || !(v.lower <= 700.0) {
         return failed();
     }
     let k = floor(v.lower * E + 0.5);
-    if place.lower < k as f64 {
-        return failed();
-    }
-    if (k + 1) as f64 <= place.upper {
+    if place.lower < k as f64 || (k + 1) as f64 <= place.upper {
         return failed();
     }
     exp_of(v, k)
@@ -84,14 +74,7 @@ fn exp_between(v: Range) -> Range
 fn is_moderate(b: Range) -> bool
     ensures { result ≡ moderate b }
 {
-    if b.lower >= -1000.0 {
-        if b.lower <= b.upper {
-            if b.upper <= 1000.0 {
-                return b.lower != 0.0;
-            }
-        }
-    }
-    false
+    b.lower >= -1000.0 && b.lower <= b.upper && b.upper <= 1000.0 && b.lower != 0.0
 }
 
 // What a moderate power of [1, 1] is: the doubles before and after 1.
@@ -99,16 +82,6 @@ const AROUND_ONE: Range = Range {
     lower: 0.9999999999999999,
     upper: 1.0000000000000002,
 };
-
-// Whether it is [1, 1].
-fn is_one(v: Range) -> bool
-    ensures { result ≡ (eq v.lower K.one && eq v.upper K.one) }
-{
-    if v.lower == 1.0 {
-        return v.upper == 1.0;
-    }
-    false
-}
 
 // e^v. Below -700 it is 0; above 700 there is no rule.
 #[tactic(auto, unfolding(arithmetic::specs::Recipes::exp))]
@@ -121,14 +94,12 @@ pub fn exp(v: Range) -> Range
 
 // v^b, as exp(b * ln v). A base of 0 gives 0 where b is above 0.
 // A moderate power of [1, 1] is known, and is not worked: its logarithm has ends on either side of 0, for which no shorter way serves, and subnormal ones.
-#[tactic(auto, unfolding(arithmetic::specs::Recipes::powf), using(range::proofs::Constants::zero_constant))]
+#[tactic(auto, unfolding(arithmetic::specs::Recipes::powf), using(range::proofs::Constants::zero_constant, crate::proofs::PowerOfOne::tested_power))]
 pub fn powf(v: Range, b: Range) -> Range
     ensures { result ≡ ranges.powf v b }
 {
-    if is_one(v) {
-        if is_moderate(b) {
-            return AROUND_ONE;
-        }
+    if v == Range::ONE && is_moderate(b) {
+        return AROUND_ONE;
     }
     let zero = b.if_above(0.0, Range::ZERO, failed());
     let other = v.if_below(0.0, failed(), zero);

@@ -32,13 +32,7 @@ fn ln_of(m: Range, e: i64) -> Range
 pub fn ln(v: Range) -> Range
     ensures { result ≡ ranges.ln v }
 {
-    if !v.is_ok() {
-        return failed();
-    }
-    if v.lower <= 0.0 {
-        return failed();
-    }
-    if v.upper <= 0.0 {
+    if !v.is_ok() || v.lower <= 0.0 || v.upper <= 0.0 {
         return failed();
     }
     let a = split(f64::to_bits(v.lower));

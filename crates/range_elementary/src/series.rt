@@ -2,18 +2,15 @@
 ghost use Rattle.std.specs.Prelude.{◌≡◌, ◌<◌, length, slice_index_or, drop};
 ghost use Rattle.std.specs.Float.{nan};
 ghost use Rattle.arithmetic.specs.Recipes as R;
-ghost use Rattle.range.specs.Rules as Rules;
 ghost use Rattle.range.specs.Rules.{rules};
 
 use range::basic::{LARGEST, Range, neighbours, product_of, sum_of};
 
-// p * z + c, by the ends of p and z.
-fn step_of(pl: f64, pu: f64, zl: f64, zu: f64, c: f64) -> Range
-    ensures { result ≡ rules.add (rules.mul (Rules.range pl pu) (Rules.range zl zu)) (rules.constant c) }
+// p * z + c, of any ranges.
+fn step_of(p: Range, z: Range, c: f64) -> Range
+    ensures { result ≡ rules.add (rules.mul p z) (rules.constant c) }
 {
-    let q = product_of(pl, pu, zl, zu);
-    let d = Range::from(c);
-    sum_of(q.lower, q.upper, d.lower, d.upper)
+    sum_of(product_of(p, z), Range::from(c))
 }
 
 // p * z + c for a z below 0. Where p is above 0, p * z is -(p * w) with w = -z; where c outweighs that, the sum is above 0.
@@ -24,29 +21,15 @@ fn step_below(p: Range, z: Range, c: f64) -> Range
         lower: -z.upper,
         upper: -z.lower,
     };
-    if p.is_positive() {
-        if w.is_positive() {
-            let q = p * w;
-            let l = -q.upper + c;
-            let u = -q.lower + c;
-            if q.lower > 0.0 {
-                if c > 0.0 {
-                    if l > 0.0 {
-                        if l <= u {
-                            if u < LARGEST {
-                                return neighbours(l, u);
-                            }
-                        }
-                    }
-                }
-            }
+    if p.is_positive() && w.is_positive() {
+        let q = p * w;
+        let l = -q.upper + c;
+        let u = -q.lower + c;
+        if q.lower > 0.0 && c > 0.0 && l > 0.0 && l <= u && u < LARGEST {
+            return neighbours(l, u);
         }
     }
-    let r = step_of(p.lower, p.upper, z.lower, z.upper, c);
-    Range {
-        lower: r.lower,
-        upper: r.upper,
-    }
+    step_of(p, z, c)
 }
 
 // p * z + c, the shorter way for a z of one sign.
@@ -59,11 +42,7 @@ fn step(p: Range, z: Range, c: f64) -> Range
     if z.lower > 0.0 {
         return p * z + Range::from(c);
     }
-    let r = step_of(p.lower, p.upper, z.lower, z.upper, c);
-    Range {
-        lower: r.lower,
-        upper: r.upper,
-    }
+    step_of(p, z, c)
 }
 
 // c[0] + z * (c[1] + z * ..), worked from the last coefficient on.

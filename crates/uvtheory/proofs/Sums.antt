@@ -1,8 +1,6 @@
 -- The sums over arrays that hold the formulas' values are the formulas' sums.
-use Rattle.std.proofs.Common.{◌≡◌, ℕ, ◌*◌, ◌/◌, ◌%◌, ◌<◌, ◌≤◌, List, get_or, replicate, ap, ◌∙◌, ap₂, arith}
-use lib.ListN.{get_or-replicate}
+use Rattle.std.proofs.Common.{◌≡◌, ℕ, ◌*◌, ◌/◌, ◌%◌, ◌<◌, List, get_or, ap, ◌∙◌, ap₂}
 use Rattle.arithmetic.specs.Arithmetic.{Arithmetic}
-use Rattle.uvtheory.specs.Literals.{FRAC_PI_6}
 use Rattle.uvtheory.specs.Parameters.{State}
 use Rattle.uvtheory.specs.Rows.{row_of, matrix_of, RowOf, MatrixOf}
 use Rattle.uvtheory.specs.OneFluid as O
@@ -25,20 +23,15 @@ module _ {Value : Type 0} (A : Arithmetic Value) (adds : Adds A) where
     unfolding P.packing_fraction
     packing_fraction_of = sum_ext A adds n _ _ (λ i l. rw (h i l))
 
-  -- by arrays of units and of diameters, of which the first n count
-  module _ (none : Value) (n : ℕ) (us : List Value) (u : ℕ → Value) (units : RowOf none n us u) (xs : List Value) (f : ℕ → Value) (h : RowOf none n xs f) where
-    pub weighted_zeta_of : (w : ℕ → Value) (k : ℕ) → S.weighted_zeta A n (row_of none us) (row_of none xs) w k ≡ S.weighted_zeta A n u f w k
+  -- by units and diameters, of which the first n count
+  module _ (n : ℕ) (u v : ℕ → Value) (units : (i : ℕ) → i < n → u i ≡ v i) (f g : ℕ → Value) (diameters : (i : ℕ) → i < n → f i ≡ g i) where
+    weighted_zeta_of : (w : ℕ → Value) (k : ℕ) → S.weighted_zeta A n u f w k ≡ S.weighted_zeta A n v g w k
     unfolding S.weighted_zeta
-    weighted_zeta_of w k = sum_ext A adds n _ _ (λ i l. rw (h i l, units i l))
+    weighted_zeta_of w k = sum_ext A adds n _ _ (λ i l. rw (diameters i l, units i l))
 
-    pub hard_sphere_of : (s : State Value) → S.helmholtz_energy_density A n (row_of none us) (row_of none xs) s ≡ S.helmholtz_energy_density A n u f s
+    pub hard_sphere_of : (s : State Value) → S.helmholtz_energy_density A n u f s ≡ S.helmholtz_energy_density A n v g s
     unfolding S.helmholtz_energy_density
     hard_sphere_of s = let z = weighted_zeta_of s.molefracs in rw (z 0, z 1, z 2, z 3)
-
-  -- of spheres: the unit u eight times
-  pub spherical_of : (none u : Value) → u ≡ A.constant FRAC_PI_6 → (n : ℕ) → n ≤ 8 → (xs : List Value) (f : ℕ → Value) → RowOf none n xs f
-      → (s : State Value) → S.helmholtz_energy_density A n (row_of none (replicate 8 u)) (row_of none xs) s ≡ S.helmholtz_energy_density A n (S.spherical A) f s
-  spherical_of none u e n few = hard_sphere_of none n (replicate 8 u) (S.spherical A) (λ i l. get_or-replicate 8 i u none (omega (arith, few, l)) ∙ e)
 
   -- over the pairs
   module _ (n : ℕ) (x : ℕ → Value) where

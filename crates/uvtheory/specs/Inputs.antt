@@ -6,6 +6,11 @@ use Rattle.uvtheory.specs.declared.parameters.State.{State as HeldState}
 use Rattle.uvtheory.specs.Parameters.{UVTheoryParameters, UVTheoryPars, State, mapped, new}
 use Rattle.uvtheory.specs.Rows.{doubles, row, place}
 
+-- a mixture in a state, as the code holds them
+pub record MixtureState (Value : Type 0) : Type 0 where
+  pub mixture : Mixture
+  pub state : HeldState Value
+
 abbrev pub sent : Mixture → UVTheoryParameters
 sent m = record {
   n = m.n;

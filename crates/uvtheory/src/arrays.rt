@@ -28,7 +28,20 @@ pub fn each<D: DualNum, F: Fn(usize) -> D>(n: Components, f: F) -> [D; 8]
     row
 }
 
-// A value for each pair of n components, the same for (i, j) and (j, i): it is worked for i up to j, and copied.
+// A value for each pair of n components.
+pub fn matrix<D: DualNum, F: Fn(usize, usize) -> D>(n: Components, f: F) -> [D; 64]
+    requires { n ≤ 8 → (i j : ℕ) → i < n → j < n → F.pre f i j }
+    ensures { (g : ℕ → ℕ → D) → ((i j : ℕ) (r : D) → i < n → j < n → F.post f i j r → r ≡ g i j) → Matrix D.arithmetic n result g }
+{
+    let n = n.get();
+    let mut matrix = [D::from(0.0); 64];
+    for k in 0..n * n {
+        matrix[k] = f(k / n, k % n);
+    }
+    matrix
+}
+
+// The same, where the values at (i, j) and (j, i) are equal: one is worked for i up to j, and copied.
 pub fn symmetric<D: DualNum, F: Fn(usize, usize) -> D>(n: Components, f: F) -> [D; 64]
     requires { n ≤ 8 → (i j : ℕ) → i ≤ j → j < n → F.pre f i j }
     ensures { (g : ℕ → ℕ → D) → ((i j : ℕ) (r : D) → i ≤ j → j < n → F.post f i j r → r ≡ g i j) → ((i j : ℕ) → j < i → g i j ≡ g j i) → Matrix D.arithmetic n result g }

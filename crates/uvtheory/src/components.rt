@@ -1,5 +1,5 @@
 // How many substances a mixture has.
-ghost use Rattle.std.specs.Prelude.{◌≡◌, ◌≤◌};
+ghost use Rattle.std.specs.Prelude.{◌≡◌, ◌+◌, ◌*◌, ◌≤◌, ◌<◌};
 
 use std::marker::Model;
 
@@ -33,5 +33,14 @@ impl Components {
         ensures { (result ≡ self) × (result ≤ 8) }
     {
         self.n
+    }
+
+    // The place of (i, j) in a matrix.
+    #[tactic(auto, using(crate::proofs::Pairs::fits))]
+    pub fn row_by_row(self, i: usize, j: usize) -> usize
+        requires { (i < self) × (j < self) }
+        ensures { (result ≡ i * self + j) × (result < 64) }
+    {
+        i * self.n + j
     }
 }

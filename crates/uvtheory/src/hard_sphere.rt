@@ -4,6 +4,7 @@ ghost use Rattle.uvtheory.specs.Rows.{row};
 ghost use Rattle.uvtheory.specs.Inputs.{state_of};
 ghost use Rattle.uvtheory.specs.HardSphere as F;
 
+use crate::arrays::each;
 use crate::components::Components;
 use crate::consts::FRAC_PI_6;
 use crate::parameters::State;
@@ -70,4 +71,17 @@ pub fn helmholtz_energy_density<D: DualNum>(
     let z2 = weighted_zeta(n, unit, diameter, &s.molefracs, 2);
     let z3 = weighted_zeta(n, unit, diameter, &s.molefracs, 3);
     bmcsl(z0, z1, z2, z3, sum(n, &s.partial_density))
+}
+
+// MonomerShape::Spherical: by the diameters.
+pub fn spherical<D: DualNum>(n: Components, diameter: &[D; 8], s: &State<D>) -> D
+    ensures { result ≡ F.helmholtz_energy_density D.arithmetic n (F.spherical D.arithmetic) (row D.arithmetic diameter.now) (state_of D.arithmetic s.now) }
+{
+    let unit = each(
+        n,
+        |i: usize| -> D
+            ensures { result ≡ F.spherical D.arithmetic i }
+        { D::from(FRAC_PI_6) },
+    );
+    helmholtz_energy_density(n, &unit, diameter, s)
 }

@@ -8,6 +8,13 @@ use crate::components::Components;
 use crate::consts::PI;
 use num_dual::dual_num::DualNum;
 
+// The tables ..ETA_A and ..ETA_B of a perturbation.
+#[derive(Clone, Copy)]
+pub struct PackingConstants {
+    pub eta_a: [[f64; 4]; 4],
+    pub eta_b: [[f64; 2]; 3],
+}
+
 #[tactic(auto, unfolding(crate::specs::PackingFraction::packing_fraction))]
 pub fn packing_fraction<D: DualNum>(n: Components, partial_density: &[D; 8], diameter: &[D; 8]) -> D
     ensures { result ≡ F.packing_fraction D.arithmetic n (row D.arithmetic partial_density.now) (row D.arithmetic diameter.now) }

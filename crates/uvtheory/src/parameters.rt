@@ -3,6 +3,7 @@ ghost use Rattle.std.specs.Prelude.{◌≡◌, ℕ, ◌<◌, ◌≤◌, [], ◌�
 ghost use Rattle.uvtheory.specs.Literals as N;
 ghost use Rattle.uvtheory.specs.Parameters as F;
 ghost use Rattle.uvtheory.specs.Parameters.{combined};
+ghost use Rattle.uvtheory.specs.Inputs.{parameters};
 ghost use Rattle.uvtheory.specs.Rows.{doubles, row, Matrix, place as place_of};
 
 use crate::arrays::{constants, symmetric};
@@ -31,8 +32,8 @@ pub struct State<D> {
 
 // UVTheoryPars: a mixture with its values in the number type, and the combined values of all pairs: matrices of n rows of n values, row by row. A clause sees the mixture.
 #[derive(Drop)]
-pub struct UVTheoryPars<'a, D: DualNum> {
-    pub mixture: &'a Mixture,
+pub struct UVTheoryPars<D: DualNum> {
+    pub mixture: Mixture,
     pub rep: [D; 8],
     pub att: [D; 8],
     pub sigma: [D; 8],
@@ -43,16 +44,25 @@ pub struct UVTheoryPars<'a, D: DualNum> {
     pub eps_k_ij: [D; 64],
 }
 
-impl<'a, D: DualNum> Model for UVTheoryPars<'a, D> {
+impl<D: DualNum> Model for UVTheoryPars<D> {
     ghost use Rattle.uvtheory.specs.declared.parameters.Mixture.{Mixture};
 
     ghost Value = { Mixture };
 
     ghost use Rattle.uvtheory.specs.Held.{Rows, Matrices};
 
-    ghost view = { λ p. p.mixture.now };
+    ghost view = { λ p. p.mixture };
 
-    ghost invariant = { λ p. Rows D.arithmetic p.mixture.now p.rep p.att p.sigma p.epsilon_k × Matrices D.arithmetic p.mixture.now p.rep_ij p.att_ij p.sigma_ij p.eps_k_ij };
+    ghost invariant = { λ p. Rows D.arithmetic p.mixture p.rep p.att p.sigma p.epsilon_k × Matrices D.arithmetic p.mixture p.rep_ij p.att_ij p.sigma_ij p.eps_k_ij };
+}
+
+// The parameters of a Mie potential: of a substance, or combined of two.
+#[derive(Clone, Copy)]
+pub struct Mie<D> {
+    pub rep: D,
+    pub att: D,
+    pub sigma: D,
+    pub epsilon_k: D,
 }
 
 // Constants for BH temperature dependent HS diameter.
@@ -150,19 +160,19 @@ fn by_rule<D: DualNum, F: Fn(usize, usize) -> D>(n: Components, pure: &[D; 8], r
     )
 }
 
-impl<'a, D: DualNum> UVTheoryPars<'a, D> {
+impl<D: DualNum> UVTheoryPars<D> {
     // Each pair is worked once, for i below j, and copied.
-    pub fn new(mixture: &'a Mixture) -> UVTheoryPars<'a, D>
-        ensures { result ≡ mixture.entry.now }
+    pub fn new(m: &Mixture) -> UVTheoryPars<D>
+        ensures { result ≡ m.now }
     {
-        let n = mixture.n;
-        let k_ij = &mixture.k_ij;
-        let rep = constants(&mixture.rep);
-        let att = constants(&mixture.att);
-        let sigma = constants(&mixture.sigma);
-        let epsilon_k = constants(&mixture.epsilon_k);
+        let n = m.n;
+        let k_ij = &m.k_ij;
+        let rep = constants(&m.rep);
+        let att = constants(&m.att);
+        let sigma = constants(&m.sigma);
+        let epsilon_k = constants(&m.epsilon_k);
         UVTheoryPars {
-            mixture,
+            mixture: *m,
             rep,
             att,
             sigma,
@@ -202,6 +212,35 @@ impl<'a, D: DualNum> UVTheoryPars<'a, D> {
                         * (epsilon_k[i] * epsilon_k[j]).sqrt()
                 },
             ),
+        }
+    }
+
+    // Of the i-th substance.
+    #[inline(always)]
+    pub fn pure(&self, i: usize) -> Mie<D>
+        requires { i < 8 }
+        ensures { result ≡ record { rep = (parameters D.arithmetic self.now).rep i; att = (parameters D.arithmetic self.now).att i; sigma = (parameters D.arithmetic self.now).sigma i; epsilon_k = (parameters D.arithmetic self.now).epsilon_k i } }
+    {
+        Mie {
+            rep: self.rep[i],
+            att: self.att[i],
+            sigma: self.sigma[i],
+            epsilon_k: self.epsilon_k[i],
+        }
+    }
+
+    // Of the pair (i, j).
+    #[inline(always)]
+    pub fn pair(&self, i: usize, j: usize) -> Mie<D>
+        requires { (i < self.now.n) × (j < self.now.n) }
+        ensures { result ≡ record { rep = (parameters D.arithmetic self.now).rep_ij i j; att = (parameters D.arithmetic self.now).att_ij i j; sigma = (parameters D.arithmetic self.now).sigma_ij i j; epsilon_k = (parameters D.arithmetic self.now).eps_k_ij i j } }
+    {
+        let k = self.mixture.n.row_by_row(i, j);
+        Mie {
+            rep: self.rep_ij[k],
+            att: self.att_ij[k],
+            sigma: self.sigma_ij[k],
+            epsilon_k: self.eps_k_ij[k],
         }
     }
 }

@@ -1,23 +1,20 @@
 // uvtheory/eos/wca/attractive_perturbation_uvb3.rs: the attractive perturbation of WCA-B3.
-ghost use Rattle.std.specs.Prelude.{◌≡◌, ◌+◌, ◌*◌, ◌≤◌, ◌<◌};
-ghost use Rattle.uvtheory.specs.Literals as N;
-ghost use Rattle.uvtheory.specs.Rows.{doubles, row, matrix, Row, Matrix, Symmetric};
+ghost use Rattle.std.specs.Prelude.{◌≡◌, ◌≤◌, ◌<◌};
+ghost use Rattle.uvtheory.specs.Rows.{doubles, Matrix};
 ghost use Rattle.uvtheory.specs.Inputs.{parameters, state_of};
-ghost use Rattle.uvtheory.specs.Held.{CombinedOf};
 ghost use Rattle.uvtheory.specs.Wca.HardSphere.{diameter_wca};
 ghost use Rattle.uvtheory.specs.Wca.AttractivePerturbationUvb3 as F;
-ghost use Rattle.uvtheory_wca.specs.Lengths.{LengthsOf};
 
 use num_dual::dual_num::DualNum;
-use uvtheory::arrays::{constants, symmetric};
+use uvtheory::arrays::{matrix, symmetric};
 use uvtheory::consts::PI;
+use uvtheory::hard_sphere::sum;
 use uvtheory::one_fluid::{OneFluid, mean_cube, one_fluid_properties, virial_sum};
 use uvtheory::packing_fraction::coefficient_b;
-use uvtheory::parameters::{Combined, Mixture, State, mean_field_of, mie_prefactor};
+use uvtheory::parameters::{mean_field_of, mie_prefactor};
 use uvtheory_wca::attractive_perturbation::{C_WCA, delta_a1u, delta_b12u};
-use uvtheory_wca::hard_sphere::{
-    LengthTables, WCA_CONSTANTS_ETA_A_UVB3, WCA_CONSTANTS_ETA_B_UVB3, q_of, rm_of,
-};
+use uvtheory_wca::hard_sphere::{WCA_PACKING_UVB3, q_of, rm_of};
+use uvtheory_wca::weeks_chandler_andersen::WeeksChandlerAndersen;
 
 // Constants for delta B2 RSAP
 pub const C_B2_RSAP: [[f64; 4]; 4] = [
@@ -188,8 +185,8 @@ fn b30_uv<D: DualNum>(rm_x: D, rep_x: D, d_x: D, q_x: D) -> D
 {
     let one = D::from(1.0);
     let tau = -d_x + rm_x;
-    let c1_eta_a = c1_eta_a(&WCA_CONSTANTS_ETA_A_UVB3[0], tau, one / rep_x);
-    let c1_eta_b = coefficient_b(&WCA_CONSTANTS_ETA_B_UVB3[0], tau);
+    let c1_eta_a = c1_eta_a(&WCA_PACKING_UVB3.eta_a[0], tau, one / rep_x);
+    let c1_eta_b = coefficient_b(&WCA_PACKING_UVB3.eta_b[0], tau);
     let d3 = d_x.powi(3);
     let rm3 = rm_x.powi(3);
     ten_volumes(d_x)
@@ -245,87 +242,67 @@ pub fn energy<D: DualNum>(o: &OneFluid<D>, t: D, density: D, rho: D, b2bar: D, b
     density * (a1u + (-u_fraction_wca(o.rep, rho, t_x) + D::from(1.0)) * b)
 }
 
-#[tactic(auto, using(uvtheory_wca::proofs::Lengths::pair_fits))]
-fn delta_b2_ij<D: DualNum>(n: usize, c: &Combined<D>, t: D, l: &LengthTables<D>) -> [D; 64]
-    requires { (n ≤ 8) × Symmetric D.arithmetic n c.now.rep_ij × Symmetric D.arithmetic n c.now.eps_k_ij × Symmetric D.arithmetic n l.now.q × Symmetric D.arithmetic n l.now.rm }
-    ensures { Matrix D.arithmetic n result (λ i j. F.delta_b2_of D.arithmetic (D.arithmetic.div t (matrix D.arithmetic n c.now.eps_k_ij i j)) (matrix D.arithmetic n c.now.rep_ij i j) (matrix D.arithmetic n l.now.q i j) (matrix D.arithmetic n l.now.rm i j)) }
+// Of all pairs.
+fn delta_b2_ij<D: DualNum>(w: &WeeksChandlerAndersen<D>) -> [D; 64]
+    ensures { Matrix D.arithmetic w.now.mixture.n result (F.delta_b2_ij D.arithmetic (parameters D.arithmetic w.now.mixture) w.now.state.temperature) }
 {
+    let p = w.parameters;
+    let t = w.state.temperature;
     symmetric(
-        n,
+        p.mixture.n,
         |i: usize, j: usize| -> D
-            requires { i * n + j < 64 }
-            ensures { result ≡ F.delta_b2_of D.arithmetic (D.arithmetic.div t (matrix D.arithmetic n c.entry.now.eps_k_ij i j)) (matrix D.arithmetic n c.entry.now.rep_ij i j) (matrix D.arithmetic n l.entry.now.q i j) (matrix D.arithmetic n l.entry.now.rm i j) }
+            requires { (i < w.now.mixture.n) × (j < w.now.mixture.n) × (t ≡ w.now.state.temperature) }
+            ensures { result ≡ F.delta_b2_ij D.arithmetic (parameters D.arithmetic w.entry.now.mixture) w.entry.now.state.temperature i j }
         {
-            let k = i * n + j;
-            delta_b2(t / c.eps_k_ij[k], c.rep_ij[k], l.q[k], l.rm[k])
+            let ij = w.pair(i, j);
+            delta_b2(t / ij.epsilon_k, ij.rep, ij.q, ij.rm)
         },
     )
 }
 
-// The mean of the dimensionless diameters of two components.
-fn mean_diameter<D: DualNum>(d: &[D; 8], sigma: &[D; 8], i: usize, j: usize) -> D
-    requires { (i < 8) × (j < 8) }
-    ensures { result ≡ D.arithmetic.mul (D.arithmetic.add (D.arithmetic.div (row D.arithmetic d.now i) (row D.arithmetic sigma.now i)) (D.arithmetic.div (row D.arithmetic d.now j) (row D.arithmetic sigma.now j))) (D.arithmetic.constant N.half) }
+// The diameter of a component over its sigma.
+fn reduced_diameter<D: DualNum>(w: &WeeksChandlerAndersen<D>, i: usize) -> D
+    requires { (i < w.now.mixture.n) × (i < 8) }
+    ensures { result ≡ D.arithmetic.div (diameter_wca D.arithmetic (parameters D.arithmetic w.now.mixture) w.now.state.temperature i) ((parameters D.arithmetic w.now.mixture).sigma i) }
 {
-    (d[i] / sigma[i] + d[j] / sigma[j]) * D::from(0.5)
-}
-
-// Of the k-th pair, by the mean diameter of its components.
-fn delta_b3_at<D: DualNum>(k: usize, c: &Combined<D>, t: D, l: &LengthTables<D>, d_ij: D) -> D
-    requires { k < 64 }
-    ensures { result ≡ F.delta_b3 D.arithmetic (D.arithmetic.div t (row D.arithmetic c.now.eps_k_ij k)) (row D.arithmetic l.now.rm k) (row D.arithmetic c.now.rep_ij k) d_ij (row D.arithmetic l.now.q k) }
-{
-    delta_b3(t / c.eps_k_ij[k], l.rm[k], c.rep_ij[k], d_ij, l.q[k])
+    w.component(i).d / w.parameters.pure(i).sigma
 }
 
 // Of all pairs; no sum of two diameters is taken to be the same the other way round.
-fn delta_b3_ij<D: DualNum>(
-    n: usize,
-    c: &Combined<D>,
-    t: D,
-    l: &LengthTables<D>,
-    d: &[D; 8],
-    sigma: &[D; 8],
-) -> [D; 64]
-    requires { n ≤ 8 }
-    ensures { Matrix D.arithmetic n result (λ i j. F.delta_b3 D.arithmetic (D.arithmetic.div t (matrix D.arithmetic n c.now.eps_k_ij i j)) (matrix D.arithmetic n l.now.rm i j) (matrix D.arithmetic n c.now.rep_ij i j)
-        (D.arithmetic.mul (D.arithmetic.add (D.arithmetic.div (row D.arithmetic d.now i) (row D.arithmetic sigma.now i)) (D.arithmetic.div (row D.arithmetic d.now j) (row D.arithmetic sigma.now j))) (D.arithmetic.constant N.half)) (matrix D.arithmetic n l.now.q i j)) }
+fn delta_b3_ij<D: DualNum>(w: &WeeksChandlerAndersen<D>) -> [D; 64]
+    ensures { Matrix D.arithmetic w.now.mixture.n result (F.delta_b3_ij D.arithmetic (parameters D.arithmetic w.now.mixture) w.now.state.temperature (diameter_wca D.arithmetic (parameters D.arithmetic w.now.mixture) w.now.state.temperature)) }
 {
-    let mut b3 = [D::from(0.0); 64];
-    for k in 0..n * n {
-        let d_ij = mean_diameter(d, sigma, k / n, k % n);
-        b3[k] = delta_b3_at(k, c, t, l, d_ij);
-    }
-    b3
+    let p = w.parameters;
+    let t = w.state.temperature;
+    matrix(
+        p.mixture.n,
+        |i: usize, j: usize| -> D
+            requires { (i < w.now.mixture.n) × (j < w.now.mixture.n) × (w.now.mixture.n ≤ 8) × (t ≡ w.now.state.temperature) }
+            ensures { result ≡ F.delta_b3_ij D.arithmetic (parameters D.arithmetic w.entry.now.mixture) w.entry.now.state.temperature (diameter_wca D.arithmetic (parameters D.arithmetic w.entry.now.mixture) w.entry.now.state.temperature) i j }
+        {
+            let ij = w.pair(i, j);
+            let d_ij = (reduced_diameter(w, i) + reduced_diameter(w, j)) * D::from(0.5);
+            delta_b3(t / ij.epsilon_k, ij.rm, ij.rep, d_ij, ij.q)
+        },
+    )
 }
 
-// By the combined values c, the lengths l of the pairs, the diameters d and the density.
-pub fn helmholtz_energy_density<D: DualNum>(
-    m: &Mixture,
-    s: &State<D>,
-    c: &Combined<D>,
-    l: &LengthTables<D>,
-    d: &[D; 8],
-    density: D,
-) -> D
-    requires n_bound { (m.now.n ≤ 8) × CombinedOf D.arithmetic m.now c.now × LengthsOf D.arithmetic m.now s.now.temperature l.now × Row D.arithmetic m.now.n d.now (diameter_wca D.arithmetic (parameters D.arithmetic m.now) s.now.temperature) }
-    requires density_value { density ≡ D.arithmetic.sum m.now.n (row D.arithmetic s.now.partial_density) }
-    ensures { result ≡ F.helmholtz_energy_density D.arithmetic (parameters D.arithmetic m.now) (state_of D.arithmetic s.now) }
+pub fn helmholtz_energy_density<D: DualNum>(w: &WeeksChandlerAndersen<D>) -> D
+    ensures { result ≡ F.helmholtz_energy_density D.arithmetic (parameters D.arithmetic w.now.mixture) (state_of D.arithmetic w.now.state) }
 {
-    let n = m.n;
-    let t = s.temperature;
+    let p = w.parameters;
+    let s = w.state;
+    let n = p.mixture.n;
     let x = &s.molefracs;
-    let sigma = constants(&m.sigma);
-    let o = one_fluid_properties(n, c, &sigma, x, d);
-    let b2 = delta_b2_ij(n, c, t, l);
-    let b2bar = virial_sum(n, x, &c.sigma_ij, 3, &b2);
-    let b3 = delta_b3_ij(n, c, t, l, d, &sigma);
-    let b3bar = virial_sum(n, x, &c.sigma_ij, 6, &b3);
+    let o = one_fluid_properties(p, x, &w.d);
+    let b2bar = virial_sum(n, x, &p.sigma_ij, 3, &delta_b2_ij(w));
+    let b3bar = virial_sum(n, x, &p.sigma_ij, 6, &delta_b3_ij(w));
+    let density = sum(n, &s.partial_density);
     energy(
         &o,
-        t,
+        s.temperature,
         density,
-        density * mean_cube(n, x, &sigma),
+        density * mean_cube(n, x, &p.sigma),
         b2bar,
         b3bar,
     )

@@ -1,17 +1,17 @@
 // uvtheory/eos/bh/attractive_perturbation.rs: the attractive perturbation by Barker-Henderson.
 ghost use Rattle.std.specs.Prelude.{◌≡◌, ◌≤◌, ◌<◌};
-ghost use Rattle.uvtheory.specs.Rows.{doubles, row, matrix, Row, Matrix};
+ghost use Rattle.uvtheory.specs.Rows.{doubles, Matrix};
 ghost use Rattle.uvtheory.specs.Inputs.{parameters, state_of};
-ghost use Rattle.uvtheory.specs.Held.{CombinedOf};
-ghost use Rattle.uvtheory.specs.Bh.HardSphere.{diameter_bh};
 ghost use Rattle.uvtheory.specs.Bh.AttractivePerturbation as F;
 
+use crate::barker_henderson::BarkerHenderson;
 use num_dual::dual_num::DualNum;
-use uvtheory::arrays::{constants, symmetric};
+use uvtheory::arrays::symmetric;
 use uvtheory::beta_eff::coefficient_2;
 use uvtheory::consts::{FRAC_PI_3, PI};
+use uvtheory::hard_sphere::sum;
 use uvtheory::one_fluid::{OneFluid, mean_cube, one_fluid_properties, virial_sum};
-use uvtheory::parameters::{Combined, Mixture, State, mean_field_of, mie_prefactor};
+use uvtheory::parameters::{UVTheoryPars, mean_field_of, mie_prefactor};
 
 pub const C_BH: [[f64; 4]; 2] = [
     [
@@ -186,41 +186,39 @@ pub fn energy<D: DualNum>(o: &OneFluid<D>, t: D, density: D, rho: D, b2bar: D) -
 }
 
 // Of all pairs.
-fn delta_b2_ij<D: DualNum>(m: &Mixture, c: &Combined<D>, t: D) -> [D; 64]
-    requires { (m.now.n ≤ 8) × CombinedOf D.arithmetic m.now c.now }
-    ensures { Matrix D.arithmetic m.now.n result (F.delta_b2_ij D.arithmetic (parameters D.arithmetic m.now) t) }
+#[tactic(auto, using(uvtheory::proofs::Sizes::parameters_fit))]
+fn delta_b2_ij<D: DualNum>(p: &UVTheoryPars<D>, t: D) -> [D; 64]
+    ensures { Matrix D.arithmetic p.now.n result (F.delta_b2_ij D.arithmetic (parameters D.arithmetic p.now) t) }
 {
-    let n = m.n;
     symmetric(
-        n,
+        p.mixture.n,
         |i: usize, j: usize| -> D
-            requires { (n ≤ 8) × (i < n) × (j < n) }
-            ensures { result ≡ F.delta_b2 D.arithmetic (D.arithmetic.div t (matrix D.arithmetic n c.entry.now.eps_k_ij i j)) (matrix D.arithmetic n c.entry.now.rep_ij i j) (matrix D.arithmetic n c.entry.now.att_ij i j) }
+            requires { (i < p.now.n) × (j < p.now.n) }
+            ensures { result ≡ F.delta_b2_ij D.arithmetic (parameters D.arithmetic p.entry.now) t i j }
         {
-            let k = i * n + j;
-            delta_b2(t / c.eps_k_ij[k], c.rep_ij[k], c.att_ij[k])
+            let ij = p.pair(i, j);
+            delta_b2(t / ij.epsilon_k, ij.rep, ij.att)
         },
     )
 }
 
-// By the combined values c, the diameters d and the density.
-pub fn helmholtz_energy_density<D: DualNum>(
-    m: &Mixture,
-    s: &State<D>,
-    c: &Combined<D>,
-    d: &[D; 8],
-    density: D,
-) -> D
-    requires n_bound { (m.now.n ≤ 8) × CombinedOf D.arithmetic m.now c.now × Row D.arithmetic m.now.n d.now (diameter_bh D.arithmetic (parameters D.arithmetic m.now) s.now.temperature) }
-    requires density_value { density ≡ D.arithmetic.sum m.now.n (row D.arithmetic s.now.partial_density) }
-    ensures { result ≡ F.helmholtz_energy_density D.arithmetic (parameters D.arithmetic m.now) (state_of D.arithmetic s.now) }
+#[tactic(auto, using(uvtheory::proofs::Sizes::parameters_fit))]
+pub fn helmholtz_energy_density<D: DualNum>(b: &BarkerHenderson<D>) -> D
+    ensures { result ≡ F.helmholtz_energy_density D.arithmetic (parameters D.arithmetic b.now.mixture) (state_of D.arithmetic b.now.state) }
 {
-    let n = m.n;
-    let t = s.temperature;
+    let p = b.parameters;
+    let s = b.state;
+    let n = p.mixture.n;
     let x = &s.molefracs;
-    let sigma = constants(&m.sigma);
-    let o = one_fluid_properties(n, c, &sigma, x, d);
-    let b2 = delta_b2_ij(m, c, t);
-    let b2bar = virial_sum(n, x, &c.sigma_ij, 3, &b2);
-    energy(&o, t, density, density * mean_cube(n, x, &sigma), b2bar)
+    let o = one_fluid_properties(p, x, &b.d);
+    let b2 = delta_b2_ij(p, s.temperature);
+    let b2bar = virial_sum(n, x, &p.sigma_ij, 3, &b2);
+    let density = sum(n, &s.partial_density);
+    energy(
+        &o,
+        s.temperature,
+        density,
+        density * mean_cube(n, x, &p.sigma),
+        b2bar,
+    )
 }

@@ -1,2 +1,2 @@
--- The laws of the tables of pairs.
-pub mod Lengths
+-- The lengths in memory.
+pub mod Sizes

@@ -1,20 +1,18 @@
 // uvtheory/eos/wca/attractive_perturbation.rs: the attractive perturbation by Weeks, Chandler and Andersen.
-ghost use Rattle.std.specs.Prelude.{◌≡◌, ◌+◌, ◌*◌, ◌≤◌, ◌<◌};
-ghost use Rattle.uvtheory.specs.Rows.{doubles, row, matrix, Row, Matrix, Symmetric};
+ghost use Rattle.std.specs.Prelude.{◌≡◌, ◌<◌};
+ghost use Rattle.uvtheory.specs.Rows.{doubles, Matrix};
 ghost use Rattle.uvtheory.specs.Inputs.{parameters, state_of};
-ghost use Rattle.uvtheory.specs.Held.{CombinedOf};
-ghost use Rattle.uvtheory.specs.Parameters.{mie_prefactor};
-ghost use Rattle.uvtheory.specs.Wca.HardSphere.{diameter_wca};
 ghost use Rattle.uvtheory.specs.Wca.AttractivePerturbation as F;
-ghost use Rattle.uvtheory_wca.specs.Lengths.{LengthsOf};
 
-use crate::hard_sphere::{LengthTables, q_of, rm_of};
+use crate::hard_sphere::{q_of, rm_of};
+use crate::weeks_chandler_andersen::WeeksChandlerAndersen;
 use num_dual::dual_num::DualNum;
-use uvtheory::arrays::{constants, symmetric};
+use uvtheory::arrays::symmetric;
 use uvtheory::beta_eff::coefficient_2;
 use uvtheory::consts::PI;
+use uvtheory::hard_sphere::sum;
 use uvtheory::one_fluid::{OneFluid, mean_cube, one_fluid_properties, virial_sum};
-use uvtheory::parameters::{Combined, Mixture, State, mean_field_of, mie_prefactor};
+use uvtheory::parameters::{mean_field_of, mie_prefactor};
 
 pub const C_WCA: [[f64; 6]; 6] = [
     [
@@ -231,53 +229,41 @@ pub fn energy<D: DualNum>(o: &OneFluid<D>, t: D, density: D, rho: D, b2bar: D) -
     density * (a1u + (-u_fraction_wca(o.rep, rho) + D::from(1.0)) * (b2bar - b21u) * density)
 }
 
-#[tactic(auto, using(crate::proofs::Lengths::pair_fits))]
-fn delta_b2_ij<D: DualNum>(n: usize, c: &Combined<D>, t: D, l: &LengthTables<D>) -> [D; 64]
-    requires { (n ≤ 8) × Symmetric D.arithmetic n c.now.rep_ij × Symmetric D.arithmetic n c.now.att_ij × Symmetric D.arithmetic n c.now.eps_k_ij × Symmetric D.arithmetic n l.now.q × Symmetric D.arithmetic n l.now.rm }
-    ensures { Matrix D.arithmetic n result (λ i j. F.delta_b2_of D.arithmetic (D.arithmetic.div t (matrix D.arithmetic n c.now.eps_k_ij i j)) (matrix D.arithmetic n c.now.rep_ij i j) (matrix D.arithmetic n c.now.att_ij i j)
-        (matrix D.arithmetic n l.now.q i j) (mie_prefactor D.arithmetic (matrix D.arithmetic n c.now.rep_ij i j) (matrix D.arithmetic n c.now.att_ij i j)) (matrix D.arithmetic n l.now.rm i j)) }
+// Of all pairs.
+fn delta_b2_ij<D: DualNum>(w: &WeeksChandlerAndersen<D>) -> [D; 64]
+    ensures { Matrix D.arithmetic w.now.mixture.n result (F.delta_b2_ij D.arithmetic (parameters D.arithmetic w.now.mixture) w.now.state.temperature) }
 {
+    let p = w.parameters;
+    let t = w.state.temperature;
     symmetric(
-        n,
+        p.mixture.n,
         |i: usize, j: usize| -> D
-            requires { i * n + j < 64 }
-            ensures { result ≡ F.delta_b2_of D.arithmetic (D.arithmetic.div t (matrix D.arithmetic n c.entry.now.eps_k_ij i j)) (matrix D.arithmetic n c.entry.now.rep_ij i j) (matrix D.arithmetic n c.entry.now.att_ij i j)
-                (matrix D.arithmetic n l.entry.now.q i j) (mie_prefactor D.arithmetic (matrix D.arithmetic n c.entry.now.rep_ij i j) (matrix D.arithmetic n c.entry.now.att_ij i j)) (matrix D.arithmetic n l.entry.now.rm i j) }
+            requires { (i < w.now.mixture.n) × (j < w.now.mixture.n) × (t ≡ w.now.state.temperature) }
+            ensures { result ≡ F.delta_b2_ij D.arithmetic (parameters D.arithmetic w.entry.now.mixture) w.entry.now.state.temperature i j }
         {
-            let k = i * n + j;
-            let rep = c.rep_ij[k];
-            let att = c.att_ij[k];
-            delta_b2(
-                t / c.eps_k_ij[k],
-                rep,
-                att,
-                l.q[k],
-                mie_prefactor(rep, att),
-                l.rm[k],
-            )
+            let ij = w.pair(i, j);
+            let c = mie_prefactor(ij.rep, ij.att);
+            delta_b2(t / ij.epsilon_k, ij.rep, ij.att, ij.q, c, ij.rm)
         },
     )
 }
 
-// By the combined values c, the lengths l of the pairs, the diameters d and the density.
-pub fn helmholtz_energy_density<D: DualNum>(
-    m: &Mixture,
-    s: &State<D>,
-    c: &Combined<D>,
-    l: &LengthTables<D>,
-    d: &[D; 8],
-    density: D,
-) -> D
-    requires n_bound { (m.now.n ≤ 8) × CombinedOf D.arithmetic m.now c.now × LengthsOf D.arithmetic m.now s.now.temperature l.now × Row D.arithmetic m.now.n d.now (diameter_wca D.arithmetic (parameters D.arithmetic m.now) s.now.temperature) }
-    requires density_value { density ≡ D.arithmetic.sum m.now.n (row D.arithmetic s.now.partial_density) }
-    ensures { result ≡ F.helmholtz_energy_density D.arithmetic (parameters D.arithmetic m.now) (state_of D.arithmetic s.now) }
+pub fn helmholtz_energy_density<D: DualNum>(w: &WeeksChandlerAndersen<D>) -> D
+    ensures { result ≡ F.helmholtz_energy_density D.arithmetic (parameters D.arithmetic w.now.mixture) (state_of D.arithmetic w.now.state) }
 {
-    let n = m.n;
-    let t = s.temperature;
+    let p = w.parameters;
+    let s = w.state;
+    let n = p.mixture.n;
     let x = &s.molefracs;
-    let sigma = constants(&m.sigma);
-    let o = one_fluid_properties(n, c, &sigma, x, d);
-    let b2 = delta_b2_ij(n, c, t, l);
-    let b2bar = virial_sum(n, x, &c.sigma_ij, 3, &b2);
-    energy(&o, t, density, density * mean_cube(n, x, &sigma), b2bar)
+    let o = one_fluid_properties(p, x, &w.d);
+    let b2 = delta_b2_ij(w);
+    let b2bar = virial_sum(n, x, &p.sigma_ij, 3, &b2);
+    let density = sum(n, &s.partial_density);
+    energy(
+        &o,
+        s.temperature,
+        density,
+        density * mean_cube(n, x, &p.sigma),
+        b2bar,
+    )
 }

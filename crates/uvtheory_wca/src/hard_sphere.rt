@@ -1,13 +1,15 @@
 // uvtheory/eos/wca/hard_sphere.rs: diameters and lengths by Weeks, Chandler and Andersen.
-ghost use Rattle.std.specs.Prelude.{◌≡◌, ◌+◌, ◌*◌, ◌≤◌, ◌<◌};
-ghost use Rattle.uvtheory.specs.Rows.{doubles, row, matrix, Matrix, Symmetric};
+ghost use Rattle.std.specs.Prelude.{◌≡◌, ◌<◌};
+ghost use Rattle.uvtheory.specs.Inputs.{parameters};
+ghost use Rattle.uvtheory.specs.Rows.{doubles, row, matrix, Row, Matrix};
 ghost use Rattle.uvtheory.specs.Wca.HardSphere as F;
-ghost use Rattle.uvtheory_wca.specs.Lengths.{ComponentLengthsOf};
+ghost use Rattle.uvtheory_wca.specs.Lengths.{Minima, MinimaOfPairs};
 
 use num_dual::dual_num::DualNum;
 use uvtheory::arrays::{each, symmetric};
 use uvtheory::consts::PI;
-use uvtheory::parameters::{Combined, Mixture};
+use uvtheory::packing_fraction::PackingConstants;
+use uvtheory::parameters::UVTheoryPars;
 
 pub const WCA_CONSTANTS_Q: [[f64; 4]; 3] = [
     [1.92840364363978, 4.43165896265079E-01, 0.0, 0.0],
@@ -51,6 +53,16 @@ pub const WCA_CONSTANTS_ETA_B_UVB3: [[f64; 2]; 3] = [
     [-13.47050687, 56.65701375],
     [12.90119266, -42.71680606],
 ];
+
+pub const WCA_PACKING: PackingConstants = PackingConstants {
+    eta_a: WCA_CONSTANTS_ETA_A,
+    eta_b: WCA_CONSTANTS_ETA_B,
+};
+
+pub const WCA_PACKING_UVB3: PackingConstants = PackingConstants {
+    eta_a: WCA_CONSTANTS_ETA_A_UVB3,
+    eta_b: WCA_CONSTANTS_ETA_B_UVB3,
+};
 
 // The place of the potential's minimum.
 #[tactic(auto, unfolding(uvtheory::specs::Wca::HardSphere::rm_of))]
@@ -103,47 +115,96 @@ pub fn q_of<D: DualNum>(t_x: D, nu: D, n: D, rs: D) -> D
     polynomial_q(t_x, nu, n).powf(-(D::from(1.0) / (nu * D::from(2.0)))) * rs
 }
 
-// The place of the minimum, the diameter and the length of each component.
-#[derive(Clone, Copy)]
-pub struct ComponentLengths<D> {
-    pub rm: [D; 8],
-    pub d: [D; 8],
-    pub length: [D; 8],
+// The places of the minima of the components.
+#[tactic(auto, using(uvtheory::proofs::Sizes::parameters_fit))]
+pub fn minima<D: DualNum>(p: &UVTheoryPars<D>) -> [D; 8]
+    ensures { Minima D.arithmetic (parameters D.arithmetic p.now) result }
+{
+    each(
+        p.mixture.n,
+        |i: usize| -> D
+            requires { i < 8 }
+            ensures { result ≡ F.rm_of D.arithmetic ((parameters D.arithmetic p.entry.now).rep i) ((parameters D.arithmetic p.entry.now).att i) }
+        {
+            let c = p.pure(i);
+            rm_of(c.rep, c.att)
+        },
+    )
 }
 
-pub fn component_lengths<D: DualNum>(m: &Mixture, temperature: D) -> ComponentLengths<D>
-    requires { m.now.n ≤ 8 }
-    ensures { ComponentLengthsOf D.arithmetic m.now temperature result }
+// The diameters, by these.
+#[tactic(auto, using(uvtheory::proofs::Sizes::parameters_fit))]
+pub fn diameter_wca<D: DualNum>(p: &UVTheoryPars<D>, temperature: D, rm: &[D; 8]) -> [D; 8]
+    requires { Minima D.arithmetic (parameters D.arithmetic p.now) rm.now }
+    ensures { Row D.arithmetic p.now.n result (F.diameter_wca D.arithmetic (parameters D.arithmetic p.now) temperature) }
 {
-    let rm = each(
-        m.n,
+    each(
+        p.mixture.n,
         |i: usize| -> D
             requires { i < 8 }
-            ensures { result ≡ F.rm_of D.arithmetic (D.arithmetic.constant (doubles m.entry.now.rep i)) (D.arithmetic.constant (doubles m.entry.now.att i)) }
-        { rm_of(D::from(m.rep[i]), D::from(m.att[i])) },
-    );
-    let d = each(
-        m.n,
-        |i: usize| -> D
-            requires { i < 8 }
-            ensures { result ≡ F.diameter_of D.arithmetic (D.arithmetic.div temperature (D.arithmetic.constant (doubles m.entry.now.epsilon_k i))) (D.arithmetic.constant (doubles m.entry.now.rep i)) (row D.arithmetic rm i) (D.arithmetic.constant (doubles m.entry.now.sigma i)) }
+            ensures { result ≡ F.diameter_of D.arithmetic (D.arithmetic.div temperature ((parameters D.arithmetic p.entry.now).epsilon_k i)) ((parameters D.arithmetic p.entry.now).rep i) (row D.arithmetic rm.entry.now i) ((parameters D.arithmetic p.entry.now).sigma i) }
         {
-            diameter_of(
-                temperature / D::from(m.epsilon_k[i]),
-                D::from(m.rep[i]),
-                rm[i],
-                D::from(m.sigma[i]),
-            )
+            let c = p.pure(i);
+            diameter_of(temperature / c.epsilon_k, c.rep, rm[i], c.sigma)
         },
-    );
-    let length = each(
-        m.n,
+    )
+}
+
+// The lengths, by both.
+#[tactic(auto, using(uvtheory::proofs::Sizes::parameters_fit))]
+pub fn dimensionless_length_scale<D: DualNum>(
+    p: &UVTheoryPars<D>,
+    temperature: D,
+    rm: &[D; 8],
+    d: &[D; 8],
+) -> [D; 8]
+    requires minima { Minima D.arithmetic (parameters D.arithmetic p.now) rm.now }
+    requires diameters { Row D.arithmetic p.now.n d.now (F.diameter_wca D.arithmetic (parameters D.arithmetic p.now) temperature) }
+    ensures { Row D.arithmetic p.now.n result (F.dimensionless_length_scale D.arithmetic (parameters D.arithmetic p.now) temperature) }
+{
+    each(
+        p.mixture.n,
         |i: usize| -> D
             requires { i < 8 }
-            ensures { result ≡ D.arithmetic.add (D.arithmetic.neg (row D.arithmetic d i)) (D.arithmetic.mul (row D.arithmetic rm i) (D.arithmetic.constant (doubles m.entry.now.sigma i))) }
-        { -d[i] + rm[i] * D::from(m.sigma[i]) },
-    );
-    ComponentLengths { rm, d, length }
+            ensures { result ≡ D.arithmetic.add (D.arithmetic.neg (row D.arithmetic d.entry.now i)) (D.arithmetic.mul (row D.arithmetic rm.entry.now i) ((parameters D.arithmetic p.entry.now).sigma i)) }
+        { -d[i] + rm[i] * p.pure(i).sigma },
+    )
+}
+
+// The places of the minima of the pairs.
+#[tactic(auto, using(uvtheory::proofs::Sizes::parameters_fit))]
+pub fn minima_ij<D: DualNum>(p: &UVTheoryPars<D>) -> [D; 64]
+    ensures { MinimaOfPairs D.arithmetic (parameters D.arithmetic p.now) result }
+{
+    symmetric(
+        p.mixture.n,
+        |i: usize, j: usize| -> D
+            requires { (i < p.now.n) × (j < p.now.n) }
+            ensures { result ≡ F.rm_of D.arithmetic ((parameters D.arithmetic p.entry.now).rep_ij i j) ((parameters D.arithmetic p.entry.now).att_ij i j) }
+        {
+            let ij = p.pair(i, j);
+            rm_of(ij.rep, ij.att)
+        },
+    )
+}
+
+// The q of the pairs, by these.
+#[tactic(auto, using(uvtheory::proofs::Sizes::parameters_fit))]
+pub fn diameter_q_ij<D: DualNum>(p: &UVTheoryPars<D>, t: D, rm_ij: &[D; 64]) -> [D; 64]
+    requires { MinimaOfPairs D.arithmetic (parameters D.arithmetic p.now) rm_ij.now }
+    ensures { Matrix D.arithmetic p.now.n result (λ i j. F.dimensionless_diameter_q_wca D.arithmetic (D.arithmetic.div t ((parameters D.arithmetic p.now).eps_k_ij i j)) ((parameters D.arithmetic p.now).rep_ij i j) ((parameters D.arithmetic p.now).att_ij i j)) }
+{
+    let n = p.mixture.n;
+    symmetric(
+        n,
+        |i: usize, j: usize| -> D
+            requires { (n ≡ p.now.n) × (i < n) × (j < n) }
+            ensures { result ≡ F.q_of D.arithmetic (D.arithmetic.div t ((parameters D.arithmetic p.entry.now).eps_k_ij i j)) ((parameters D.arithmetic p.entry.now).rep_ij i j) ((parameters D.arithmetic p.entry.now).att_ij i j) (matrix D.arithmetic n rm_ij.entry.now i j) }
+        {
+            let ij = p.pair(i, j);
+            q_of(t / ij.epsilon_k, ij.rep, ij.att, rm_ij[n.row_by_row(i, j)])
+        },
+    )
 }
 
 // The dimensionless tau of a pair.
@@ -152,40 +213,4 @@ pub fn tau<D: DualNum>(li: D, lj: D, sigma_ij: D) -> D
     ensures { result ≡ F.tau D.arithmetic li lj sigma_ij }
 {
     (li + lj) / sigma_ij * D::from(0.5)
-}
-
-// The places of the minima and q of all pairs.
-#[derive(Clone, Copy)]
-pub struct LengthTables<D> {
-    pub rm: [D; 64],
-    pub q: [D; 64],
-}
-
-#[tactic(auto, using(crate::proofs::Lengths::pair_fits))]
-pub fn pair_lengths<D: DualNum>(n: usize, c: &Combined<D>, t: D) -> LengthTables<D>
-    requires { (n ≤ 8) × Symmetric D.arithmetic n c.now.rep_ij × Symmetric D.arithmetic n c.now.att_ij × Symmetric D.arithmetic n c.now.eps_k_ij }
-    ensures { Matrix D.arithmetic n result.rm (λ i j. F.rm_of D.arithmetic (matrix D.arithmetic n c.now.rep_ij i j) (matrix D.arithmetic n c.now.att_ij i j))
-        × Matrix D.arithmetic n result.q (λ i j. F.dimensionless_diameter_q_wca D.arithmetic (D.arithmetic.div t (matrix D.arithmetic n c.now.eps_k_ij i j)) (matrix D.arithmetic n c.now.rep_ij i j) (matrix D.arithmetic n c.now.att_ij i j)) }
-{
-    let rm = symmetric(
-        n,
-        |i: usize, j: usize| -> D
-            requires { i * n + j < 64 }
-            ensures { result ≡ F.rm_of D.arithmetic (matrix D.arithmetic n c.entry.now.rep_ij i j) (matrix D.arithmetic n c.entry.now.att_ij i j) }
-        {
-            let k = i * n + j;
-            rm_of(c.rep_ij[k], c.att_ij[k])
-        },
-    );
-    let q = symmetric(
-        n,
-        |i: usize, j: usize| -> D
-            requires { i * n + j < 64 }
-            ensures { result ≡ F.q_of D.arithmetic (D.arithmetic.div t (matrix D.arithmetic n c.entry.now.eps_k_ij i j)) (matrix D.arithmetic n c.entry.now.rep_ij i j) (matrix D.arithmetic n c.entry.now.att_ij i j) (matrix D.arithmetic n rm i j) }
-        {
-            let k = i * n + j;
-            q_of(t / c.eps_k_ij[k], c.rep_ij[k], c.att_ij[k], rm[k])
-        },
-    );
-    LengthTables { rm, q }
 }

@@ -1,17 +1,18 @@
 // uvtheory/eos/wca/reference_perturbation.rs and reference_perturbation_uvb3.rs, which differ in their packing tables only.
 ghost use Rattle.std.specs.Prelude.{◌≡◌, ◌≤◌, ◌<◌};
-ghost use Rattle.arithmetic.specs.Sums.{pairs};
 ghost use Rattle.uvtheory.specs.Tables.{table};
-ghost use Rattle.uvtheory.specs.Rows.{row, matrix};
+ghost use Rattle.uvtheory.specs.Rows.{row};
 ghost use Rattle.uvtheory.specs.Inputs.{parameters, state_of};
-ghost use Rattle.uvtheory.specs.Held.{CombinedOf};
+ghost use Rattle.uvtheory.specs.Wca.HardSphere.{rm_of, diameter_wca, dimensionless_length_scale, dimensionless_diameter_q_wca};
 ghost use Rattle.uvtheory.specs.Wca.ReferencePerturbation as F;
-ghost use Rattle.uvtheory_wca.specs.Lengths.{ComponentLengthsOf, LengthsOf};
 
-use crate::hard_sphere::{ComponentLengths, LengthTables, tau};
+use crate::hard_sphere::tau;
+use crate::weeks_chandler_andersen::{Component, Pair, WeeksChandlerAndersen};
 use num_dual::dual_num::DualNum;
-use uvtheory::packing_fraction::{packing_fraction, packing_fraction_a, packing_fraction_b};
-use uvtheory::parameters::{Combined, Mixture, State};
+use uvtheory::hard_sphere::sum;
+use uvtheory::packing_fraction::{
+    PackingConstants, packing_fraction, packing_fraction_a, packing_fraction_b,
+};
 use uvtheory::reference_energy::energy;
 
 // Of a pair of components.
@@ -27,113 +28,59 @@ fn term<D: DualNum>(xi: D, xj: D, eta_a: D, eta_b: D, rs_ij: D, d_ij: D, q_ij: D
             - (-eta_b * half + one) / (-eta_b + one).powi(3) * (-d_ij.powi(3) + rs3))
 }
 
-// The values of a component: fraction, place of the minimum, diameter and length.
-#[derive(Clone, Copy)]
-pub struct Component<D> {
-    pub x: D,
-    pub rm: D,
-    pub d: D,
-    pub length: D,
-}
-
-// The values of a pair: q, sigma and rep.
-#[derive(Clone, Copy)]
-pub struct Pair<D> {
-    pub q: D,
-    pub sigma_ij: D,
-    pub rep_ij: D,
-}
-
 #[tactic(auto, unfolding(uvtheory::specs::Wca::ReferencePerturbation::term_of))]
 fn term_of<D: DualNum>(
-    ta: &[[f64; 4]; 4],
-    tb: &[[f64; 2]; 3],
+    c: &PackingConstants,
     i: Component<D>,
     j: Component<D>,
     ij: Pair<D>,
     eta: D,
 ) -> D
-    ensures { result ≡ F.term_of D.arithmetic (table ta.now) (table tb.now) i.x j.x i.rm j.rm i.d j.d i.length j.length ij.q ij.sigma_ij ij.rep_ij eta }
+    ensures { result ≡ F.term_of D.arithmetic (table c.now.eta_a) (table c.now.eta_b) i.x j.x i.rm j.rm i.d j.d i.length j.length ij.q ij.sigma ij.rep eta }
 {
     let half = D::from(0.5);
-    let t = tau(i.length, j.length, ij.sigma_ij);
+    let t = tau(i.length, j.length, ij.sigma);
     term(
         i.x,
         j.x,
-        packing_fraction_a(ta, eta, t, ij.rep_ij),
-        packing_fraction_b(tb, eta, t),
+        packing_fraction_a(&c.eta_a, eta, t, ij.rep),
+        packing_fraction_b(&c.eta_b, eta, t),
         (i.rm + j.rm) * half,
         (i.d + j.d) * half,
-        ij.q * ij.sigma_ij,
-        ij.sigma_ij,
+        ij.q * ij.sigma,
+        ij.sigma,
     )
 }
 
-fn component_of<D: DualNum>(i: usize, x: &[D; 8], r: &ComponentLengths<D>) -> Component<D>
-    requires { i < 8 }
-    ensures { result ≡ record { x = row D.arithmetic x.now i; rm = row D.arithmetic r.now.rm i; d = row D.arithmetic r.now.d i; length = row D.arithmetic r.now.length i } }
-{
-    Component {
-        x: x[i],
-        rm: r.rm[i],
-        d: r.d[i],
-        length: r.length[i],
-    }
-}
-
-fn pair_of<D: DualNum>(k: usize, q: &[D; 64], c: &Combined<D>) -> Pair<D>
-    requires { k < 64 }
-    ensures { result ≡ record { q = row D.arithmetic q.now k; sigma_ij = row D.arithmetic c.now.sigma_ij k; rep_ij = row D.arithmetic c.now.rep_ij k } }
-{
-    Pair {
-        q: q[k],
-        sigma_ij: c.sigma_ij[k],
-        rep_ij: c.rep_ij[k],
-    }
-}
-
-// The sum of the terms over all pairs.
-pub fn pair_sum<D: DualNum>(
-    ta: &[[f64; 4]; 4],
-    tb: &[[f64; 2]; 3],
-    n: usize,
-    x: &[D; 8],
-    r: &ComponentLengths<D>,
-    q: &[D; 64],
-    c: &Combined<D>,
+// Of the components i and j.
+fn term_ij<D: DualNum>(
+    c: &PackingConstants,
+    w: &WeeksChandlerAndersen<D>,
+    i: usize,
+    j: usize,
     eta: D,
 ) -> D
-    requires { n ≤ 8 }
-    ensures { result ≡ pairs D.arithmetic n (F.term_ij D.arithmetic (table ta.now) (table tb.now) (row D.arithmetic x.now) (row D.arithmetic r.now.rm) (row D.arithmetic r.now.d) (row D.arithmetic r.now.length)
-        (matrix D.arithmetic n q.now) (matrix D.arithmetic n c.now.sigma_ij) (matrix D.arithmetic n c.now.rep_ij) eta) }
+    requires { (i < w.now.mixture.n) × (j < w.now.mixture.n) × (w.now.mixture.n ≤ 8) }
+    ensures { result ≡ F.term_ij D.arithmetic (table c.now.eta_a) (table c.now.eta_b) (row D.arithmetic w.now.state.molefracs) (λ i. rm_of D.arithmetic ((parameters D.arithmetic w.now.mixture).rep i) ((parameters D.arithmetic w.now.mixture).att i))
+        (diameter_wca D.arithmetic (parameters D.arithmetic w.now.mixture) w.now.state.temperature) (dimensionless_length_scale D.arithmetic (parameters D.arithmetic w.now.mixture) w.now.state.temperature)
+        (λ i j. dimensionless_diameter_q_wca D.arithmetic (D.arithmetic.div w.now.state.temperature ((parameters D.arithmetic w.now.mixture).eps_k_ij i j)) ((parameters D.arithmetic w.now.mixture).rep_ij i j) ((parameters D.arithmetic w.now.mixture).att_ij i j))
+        (parameters D.arithmetic w.now.mixture).sigma_ij (parameters D.arithmetic w.now.mixture).rep_ij eta i j }
 {
-    let mut sum = D::from(0.0);
-    for k in 0..n * n {
-        let i = component_of(k / n, x, r);
-        let j = component_of(k % n, x, r);
-        sum = sum + term_of(ta, tb, i, j, pair_of(k, q, c), eta);
-    }
-    sum
+    term_of(c, w.component(i), w.component(j), w.pair(i, j), eta)
 }
 
-// By the packing tables ta and tb, the combined values c, the lengths r of the components and l of the pairs, and the density.
-pub fn helmholtz_energy_density<D: DualNum>(
-    ta: &[[f64; 4]; 4],
-    tb: &[[f64; 2]; 3],
-    m: &Mixture,
-    s: &State<D>,
-    c: &Combined<D>,
-    r: &ComponentLengths<D>,
-    l: &LengthTables<D>,
-    density: D,
-) -> D
-    requires n_bound { (m.now.n ≤ 8) × CombinedOf D.arithmetic m.now c.now × ComponentLengthsOf D.arithmetic m.now s.now.temperature r.now × LengthsOf D.arithmetic m.now s.now.temperature l.now }
-    requires density_value { density ≡ D.arithmetic.sum m.now.n (row D.arithmetic s.now.partial_density) }
-    ensures { result ≡ F.helmholtz_energy_density D.arithmetic (table ta.now) (table tb.now) (parameters D.arithmetic m.now) (state_of D.arithmetic s.now) }
+// By the packing constants of WCA or of B3.
+pub fn helmholtz_energy_density<D: DualNum>(c: &PackingConstants, w: &WeeksChandlerAndersen<D>) -> D
+    ensures { result ≡ F.helmholtz_energy_density D.arithmetic (table c.now.eta_a) (table c.now.eta_b) (parameters D.arithmetic w.now.mixture) (state_of D.arithmetic w.now.state) }
 {
-    let eta = packing_fraction(m.n, &s.partial_density, &r.d);
-    energy(
-        pair_sum(ta, tb, m.n, &s.molefracs, r, &l.q, c, eta),
-        density,
-    )
+    let p = w.parameters;
+    let components = p.mixture.n;
+    let partial_density = &w.state.partial_density;
+    let eta = packing_fraction(components, partial_density, &w.d);
+    let n = components.get();
+    let mut a = D::from(0.0);
+    for k in 0..n * n {
+        a = a + term_ij(c, w, k / n, k % n, eta);
+    }
+    energy(a, sum(components, partial_density))
 }

@@ -1,5 +1,5 @@
 -- The tests tell the cases of the recipe.
-use Rattle.std.proofs.Common.{◌≡◌, true, false, T, ℤ, sym, refl, ap, ◌∙◌, subst, w64, to_z, of_z}
+use Rattle.std.proofs.Common.{◌≡◌, true, false, T, ℤ, sym, refl, ap, ◌∙◌, w64, to_z, of_z}
 use lib.Ieee.{Float, nan, inf, fin, binary64, lt, le, add, mul}
 use lib.Ieee.Bits.{is_true}
 use lib.Ieee.Scale.{finite}
@@ -7,7 +7,7 @@ use Rattle.arithmetic.specs.Value.{value}
 use Rattle.arithmetic.specs.Cases.{floor_of}
 use Rattle.arithmetic.specs.Constants.{zero_d, half, E, seven_hundred, minus_seven_hundred}
 use Rattle.arithmetic.specs.Recipes as R
-use Rattle.arithmetic.specs.Doubles.{plain}
+use Rattle.arithmetic.specs.Doubles.{plain, where_finite}
 use Rattle.arithmetic.proofs.Tests.{below_is, above_is, le_is, zero_by_zero, failed_test, passed_test}
 use mir.ValLaws.{to_z-of_z}
 use Rattle.elementary.proofs.Floor.{Bounded, floor_normal, normal_word}
@@ -16,13 +16,11 @@ use Rattle.elementary.proofs.Place.{constants, place, limited_finite, place_boun
 use Rattle.elementary.proofs.exponential.exp.Goals as goal
 
 -- ---- the recipe, by its cases
-exp_low : (v : Float) → finite v ≡ true → lt v minus_seven_hundred ≡ true → zero_d ≡ R.exp plain v
+exp_low : (v : Float) → lt v minus_seven_hundred ≡ true → where_finite v zero_d ≡ R.exp plain v
 unfolding R.exp
-exp_low v p h = rw (p, below_is v minus_seven_hundred (subst T (sym p) tt) constants.3, h)
-
-exp_not_finite : (v : Float) → finite v ≡ false → nan ≡ R.exp plain v
-unfolding R.exp
-exp_not_finite v p = rw p
+exp_low nan h = refl
+exp_low (inf s) h = refl
+exp_low (fin s m e) h = rw (below_is (fin s m e) minus_seven_hundred tt constants.3, h)
 
 exp_middle : (v : Float) → T (finite v) → T (finite (add binary64 (mul binary64 v E) half)) → lt v minus_seven_hundred ≡ false → lt seven_hundred v ≡ false → R.exp_of plain v (floor_of (value (add binary64 (mul binary64 v E) half))) ≡ R.exp plain v
 unfolding R.exp
@@ -38,11 +36,8 @@ exp_high (fin s m e) a b = rw (below_is (fin s m e) minus_seven_hundred tt const
     above x p h = passed_test (lt seven_hundred x) (sym (le_is x seven_hundred p constants.2) ∙ h)
 
 -- ---- the function
-pub returns-then-is_finite : goal.returns-then-is_finite
-returns-then-is_finite c = exp_low c.args.v (sym c.is_finite.ensures ∙ c.if-is_finite.true) c.if-v.true
-
 pub returns-then-v : goal.returns-then-v
-returns-then-v c = zero_by_zero ∙ exp_not_finite c.args.v (sym c.is_finite.ensures ∙ c.if-is_finite.false)
+returns-then-v c = c.where_finite.ensures ∙ exp_low c.args.v c.if-v.true
 
 pub floor-requires : goal.floor-requires
 floor-requires c = place_bounded c.args.v c.if-v.false c.if-v-2.true

@@ -7,9 +7,10 @@ use Rattle.arithmetic.specs.Basic.{above}
 use Rattle.arithmetic.specs.Constants.{zero_d}
 use Rattle.arithmetic.specs.Recipes as R
 use Rattle.arithmetic.specs.Doubles.{plain, tested}
+use Rattle.arithmetic.proofs.Nan.{mul_nan}
 use Rattle.arithmetic.proofs.Tests.{below_is, above_is, zero_by_zero}
 use Rattle.elementary.proofs.exponential.powf.Goals as goal
-use Rattle.elementary.proofs.exponential.powf.Goals.{then-is_finite+then-b+else-is_finite-2, then-is_finite+else-b, else-is_finite}
+use Rattle.elementary.proofs.exponential.powf.Goals.{else-is_finite-via-then-is_finite+then-b+else-is_finite-2, else-is_finite-via-then-is_finite+else-b, else-is_finite-via-else-is_finite}
 
 -- the recipe for a number, by its cases
 by_cases : (v b : Float) → finite v ≡ true → R.powf plain v b
@@ -20,12 +21,6 @@ by_cases v b e = let p : T (finite v) = subst T (sym e) tt in rw (e, above_is v 
 not_finite : (v b : Float) → finite v ≡ false → nan ≡ R.powf plain v b
 unfolding R.powf
 not_finite v b e = rw e
-
-mul_nan : (b : Float) → mul binary64 b nan ≡ nan
-unfolding mul
-mul_nan nan = refl
-mul_nan (inf s) = refl
-mul_nan (fin s m e) = refl
 
 infinite : (s : Bool) (b : Float) → R.exp plain (mul binary64 b (R.ln plain (inf s))) ≡ nan
 unfolding R.ln R.exp
@@ -75,8 +70,8 @@ returns c =
     let b = c.args.b in
     let zero : finite v ≡ true → R.powf plain v b ≡ tested (above zero_d) b zero_d nan = λ p. at_zero v b p c.if-v.false c.if-v-2.false in
     zero_by_zero
-    ∙ elim c.if-is_finite.branch [
-      | then-is_finite+then-b+else-is_finite-2 w ↦ rw (zero (sym c.is_finite.ensures ∙ w.if-is_finite.true), sym w.is_finite-then-b.ensures ∙ w.if-is_finite-2.false)
-      | then-is_finite+else-b w ↦ rw (zero (sym c.is_finite.ensures ∙ w.if-is_finite.true)) (either b w.if-b.false)
-      | else-is_finite w ↦ not_finite v b (sym c.is_finite.ensures ∙ w.if-is_finite.false)
+    ∙ elim c.else-is_finite.branch [
+      | else-is_finite-via-then-is_finite+then-b+else-is_finite-2 w ↦ rw (zero (sym c.is_finite.ensures ∙ w.if-is_finite.true), sym w.is_finite-then-b.ensures ∙ w.if-is_finite-2.false)
+      | else-is_finite-via-then-is_finite+else-b w ↦ rw (zero (sym c.is_finite.ensures ∙ w.if-is_finite.true)) (either b w.if-b.false)
+      | else-is_finite-via-else-is_finite w ↦ not_finite v b (sym c.is_finite.ensures ∙ w.if-is_finite.false)
     ]

@@ -1,5 +1,5 @@
 -- The tests tell the cases of the recipe.
-use Rattle.std.proofs.Common.{◌≡◌, Bool, true, false, T, ℤ, neg_ℤ, sym, refl, ap, ◌∙◌, subst, ap₂, arith, w64}
+use Rattle.std.proofs.Common.{◌≡◌, true, false, T, ℤ, neg_ℤ, sym, refl, ap, ◌∙◌, subst, ap₂, arith, w64}
 use mathlib.Core.Option.{some}
 use lib.Ieee.{Float, nan, inf, fin, binary64, to_bits, of_bits, in_float, lt}
 use lib.Ieee.Bits.{of_bits-to_bits, is_true}
@@ -20,7 +20,7 @@ use Rattle.arithmetic.proofs.Cases.{exponent_none}
 use Rattle.arithmetic.proofs.Tests.{not_below, zero_by_zero, is_so}
 use Rattle.elementary.proofs.Words.{float_word}
 use Rattle.elementary.proofs.logarithm.ln.Goals as goal
-use Rattle.elementary.proofs.logarithm.ln.Goals.{then-v+else-is_finite, else-v}
+use Rattle.elementary.proofs.logarithm.ln.Goals.{else-v-via-then-v+else-is_finite, else-v-via-else-v}
 
 -- ---- the recipe, by its cases
 ln_some : (v : Float) (e : ℤ) → T (finite v) → exponent_of (value v) ≡ some e → R.ln_of plain (scaled v (neg_ℤ e)) e ≡ R.ln plain v
@@ -65,7 +65,7 @@ returns-then-is_finite c =
 pub returns : goal.returns
 returns c =
     let v = c.args.v in
-    elim c.if-v.branch [
-      | then-v+else-is_finite w ↦ zero_by_zero ∙ ln_not_finite v (sym w.is_finite.ensures ∙ w.if-is_finite.false)
-      | else-v w ↦ zero_by_zero ∙ ln_none v w.if-v.false
+    elim c.else-v.branch [
+      | else-v-via-then-v+else-is_finite w ↦ zero_by_zero ∙ ln_not_finite v (sym w.is_finite.ensures ∙ w.if-is_finite.false)
+      | else-v-via-else-v w ↦ zero_by_zero ∙ ln_none v w.if-v.false
     ]

@@ -22,7 +22,7 @@ returns c =
     let dl : length d ≡ 8 = search (rules, c.well_formed) in
     let xl : length x ≡ 8 = search (rules, c.well_formed) in
     let at : (i : ℕ) → (i < 8) ⊎ (8 ≤ i) → row guarded_slopes c.each.result i ≡ densities i = λ i. elim [
-      | inl l ↦ filled i l
+      | inl l ↦ filled i (omega arith)
       | inr h ↦ get_or_past c.each.result i _ (omega (arith, size)) ∙ nan_constant ∙ sym (ap₂ (start plain) (get_or_past d i nan (omega (arith, dl))) (get_or_past x i nan (omega (arith, xl))))
     ] in
     rw (c.from.ensures, fun_ext (λ i. at i (cases_lt i 8)), c.constants.ensures)

@@ -1,21 +1,17 @@
 -- Zeros by computation; for the rest the code's sum is the next pattern.
 use mathlib.Core.Path.{◌≡◌, sym, ap, subst, ◌∙◌}
-use Prim.Native.Nat.{ℕ, ◌+◌, ◌-◌, ◌*◌, ◌/◌, ◌^◌, ◌<◌}
+use Prim.Native.Nat.{ℕ, ◌+◌, ◌-◌, ◌*◌, ◌/◌, ◌^◌}
 use native.Mathlib.Omega.{arith}
-use mathlib.Core.Bool.{Bool, true, false, not}
+use mathlib.Core.Bool.{true, false, not}
 use lib.Dec.{T}
 use lib.Ieee.{Float, binary64, eq, fits, to_bits, of_bits, nan_bits}
 use lib.Ieee.Bits.{to_bits-lt}
-use lib.Ieee.Scale.{finite}
 use Rattle.std.proofs.lemmas.Float.{T_from_true}
 use Rattle.arithmetic.specs.Next.{bits_up, next_up}
 use Rattle.arithmetic.proofs.Next.{bits_up_is, bits_up_real, next_up_zero, finite_not_nan, pattern_room}
-use Rattle.arithmetic.proofs.Tests.{is_so, where_then, where_else}
+use Rattle.arithmetic.proofs.Tests.{is_so, where_then}
 use Rattle.arithmetic.proofs.Zero.{is_zero_is, nonzero_pattern}
 use Rattle.operations.proofs.next.next_up.Goals as goal
-
-room : (x : Float) → fits binary64 x ≡ true → T (finite x) → to_bits binary64 x + 1 < 2 ^ 64
-room x f n = pattern_room binary64 x (T_from_true _ f) n
 
 -- the code's sum is the next pattern
 next : (x : Float) → fits binary64 x ≡ true → eq x (of_bits binary64 0) ≡ false → let b = to_bits binary64 x in bits_up binary64 b ≡ b + 1 - b / 2 ^ 63 * 2
@@ -35,10 +31,10 @@ returns-then-x c =
     ∙ where_then c.is_finite.result c.args.x (next_up binary64 c.args.x) c.is_finite.ensures c.if-is_finite.true
 
 pub overflow_add-result : goal.overflow_add-result
-overflow_add-result c = omega (arith, room c.args.x c.well_formed.0.1 (is_so _ c.args.x c.is_finite.ensures c.if-is_finite.true))
+overflow_add-result c = omega (arith, pattern_room binary64 c.args.x (T_from_true _ c.well_formed.0.1) (is_so _ c.args.x c.is_finite.ensures c.if-is_finite.true))
 
 pub overflow_mul-result : goal.overflow_mul-result
-overflow_mul-result c = omega (arith, room c.args.x c.well_formed.0.1 (is_so _ c.args.x c.is_finite.ensures c.if-is_finite.true))
+overflow_mul-result c = omega (arith, pattern_room binary64 c.args.x (T_from_true _ c.well_formed.0.1) (is_so _ c.args.x c.is_finite.ensures c.if-is_finite.true))
 
 pub float_from_bits-result-then-is_finite : goal.float_from_bits-result-then-is_finite
 float_from_bits-result-then-is_finite c = let x = c.args.x in subst (λ (b : ℕ). T (not (nan_bits binary64 b))) (next c.args.x c.well_formed.0.1 c.if-x.false) (bits_up_real binary64 x (T_from_true _ c.well_formed.0.1) (is_so _ c.args.x c.is_finite.ensures c.if-is_finite.true))

@@ -1,5 +1,5 @@
 -- The tests tell which case of the definition it is.
-use mathlib.Core.Path.{◌≡◌, refl, sym, ap, ◌∙◌, subst}
+use mathlib.Core.Path.{◌≡◌, refl, sym, ap, ◌∙◌}
 use Prim.Native.Nat.{ℕ, ◌*◌}
 use native.Mathlib.Nat.{mul-pos, eq-zero-or-pos}
 use native.Mathlib.Omega.{arith}
@@ -19,7 +19,7 @@ use Rattle.arithmetic.proofs.Next.{finite_not_nan, real_plus}
 use Rattle.arithmetic.proofs.Tests.{zero_by_zero, is_so}
 use Rattle.arithmetic.proofs.Zero.{is_zero_is, not_zero, above_zero, positive_pattern}
 use Rattle.operations.proofs.root.counted_sqrt.Goals as goal
-use Rattle.operations.proofs.root.counted_sqrt.Goals.{then-v-2+else-is_finite, else-v-2}
+use Rattle.operations.proofs.root.counted_sqrt.Goals.{else-v-2-via-then-v-2+else-is_finite, else-v-2-via-else-v-2}
 
 -- ---- the cases without a loop
 abbrev Is : Float → ℕ → Float → Type 0
@@ -73,7 +73,7 @@ returns-then-is_finite c =
 pub returns : goal.returns
 returns c =
     rw zero_by_zero
-    (elim c.if-v-2.branch [
-      | then-v-2+else-is_finite w ↦ none_above c.args.v (sym w.is_finite.ensures ∙ w.if-is_finite.false)
-      | else-v-2 w ↦ none_below c.args.v c.if-v.false w.if-v-2.false
+    (elim c.else-v-2.branch [
+      | else-v-2-via-then-v-2+else-is_finite w ↦ none_above c.args.v (sym w.is_finite.ensures ∙ w.if-is_finite.false)
+      | else-v-2-via-else-v-2 w ↦ none_below c.args.v c.if-v.false w.if-v-2.false
     ])

@@ -28,21 +28,18 @@ use Rattle.range.proofs.Corners.{In, lower_finite, upper_finite}
 use Rattle.range.proofs.Testing.{has_ends, failed_step}
 use Rattle.range_elementary.proofs.Place.{places, place_in, one_floor, floor_below, floor_above}
 use Rattle.range_elementary.proofs.exponential.exp_between.Goals as goal
+use Rattle.range_elementary.proofs.exponential.exp_between.Goals.{then-not-is_ok-via-then-not-is_ok, then-not-is_ok-via-else-not-is_ok+then-v, then-not-is_ok-via-else-not-is_ok+else-v+then-not-v, then-place-k-via-then-place-k, then-place-k-via-else-place-k+then-k-place}
 
--- the range of v × E + 0.5
+-- what is not worked
 pub returns-then-not-is_ok : goal.returns-then-not-is_ok
 returns-then-not-is_ok c =
     let v = c.args.v in
     let is : c.add-place.result ≡ places v = rw (c.add-place.ensures, c.from-2.ensures, c.mul.ensures, c.from.ensures) in
-    λ a l h. c.failed.ensures ∙ sym (failed_step floor (places v) (λ k. R.exp_of Rules.rules v k) (ap ok (sym is) ∙ sym c.is_ok.ensures ∙ c.if-not-is_ok.true))
-
-pub returns-then-v : goal.returns-then-v
-returns-then-v c = λ a l h. absurd (true≢false (sym c.if-v.true ∙ l))
-
-pub returns-then-not-v : goal.returns-then-not-v
-returns-then-not-v c =
-    let v = c.args.v in
-    λ a l h. absurd (false≢true (sym c.if-not-v.true ∙ le_is v.lower K.seven_hundred (lower_finite v (has_ends v a)) constants.2 ∙ ap not h))
+    λ a l h. elim c.then-not-is_ok.branch [
+      | then-not-is_ok-via-then-not-is_ok w ↦ c.failed.ensures ∙ sym (failed_step floor (places v) (λ k. R.exp_of Rules.rules v k) (ap ok (sym is) ∙ sym c.is_ok.ensures ∙ w.if-not-is_ok.true))
+      | then-not-is_ok-via-else-not-is_ok+then-v w ↦ absurd (true≢false (sym w.if-v.true ∙ l))
+      | then-not-is_ok-via-else-not-is_ok+else-v+then-not-v w ↦ absurd (false≢true (sym w.if-not-v.true ∙ le_is v.lower K.seven_hundred (lower_finite v (has_ends v a)) constants.2 ∙ ap not h))
+    ]
 
 -- ---- past the tests of the lower end: its k
 bounded : (v : Range) → lt v.lower K.minus_seven_hundred ≡ false → le v.lower K.seven_hundred ≡ true → Bounded (place v.lower)
@@ -111,26 +108,25 @@ returns-then-place-k c =
     let is : c.add-place.result ≡ places v = rw (c.add-place.ensures, c.from-2.ensures, c.mul.ensures, c.from.ensures) in
     let o : ok (places v) ≡ true = ap ok (sym is) ∙ sym c.is_ok.ensures ∙ c.if-not-is_ok.false in
     let b = bounded v c.if-v.false c.if-not-v.false in
-    let less = lower_less v c.add-place.result o is (k v) (normal_float (k v) (k_normal v b)) _ (k_back v b c.floor-k.result c.floor-k.ensures) c.if-place-k.true in
-    λ a l h. c.failed-then-place-k.ensures ∙ sym (floor_below (places v) o (value (place v.lower)) (holds v (search rules) o b) (λ j. R.exp_of Rules.rules v j) less)
+    let inside = holds v (search rules) o b in
+    let e = c.floor-k.ensures in
+    λ a l h. c.failed-then-place-k.ensures ∙ sym (elim c.then-place-k.branch [
+      | then-place-k-via-then-place-k w ↦
+          floor_below (places v) o (value (place v.lower)) inside (λ j. R.exp_of Rules.rules v j)
+          (lower_less v c.add-place.result o is (k v) (normal_float (k v) (k_normal v b)) _ (k_back v b c.floor-k.result e) w.if-place-k.true)
+      | then-place-k-via-else-place-k+then-k-place w ↦
+          floor_above (places v) o (value (place v.lower)) inside (λ j. R.exp_of Rules.rules v j)
+          (upper_at_least v c.add-place.result o is (suc_ℤ (k v)) (next_float (k v) (k_normal v b)) _ (next_back v b c.floor-k.result e) w.if-k-place.true)
+    ])
 
 pub overflow_add-k : goal.overflow_add-k
 overflow_add-k c = next_fits c.args.v (bounded c.args.v c.if-v.false c.if-not-v.false) c.floor-k.result c.floor-k.ensures
 
-pub int_to_float-k-2 : goal.int_to_float-k-2
-int_to_float-k-2 c =
+pub int_to_float-k-else-place-k : goal.int_to_float-k-else-place-k
+int_to_float-k-else-place-k c =
     let v = c.args.v in
     let b = bounded v c.if-v.false c.if-not-v.false in
     subst (λ (z : ℤ). T (in_float binary64 z)) (sym (next_back v b c.floor-k.result c.floor-k.ensures)) (next_float (k v) (k_normal v b))
-
-pub returns-then-k-place : goal.returns-then-k-place
-returns-then-k-place c =
-    let v = c.args.v in
-    let is : c.add-place.result ≡ places v = rw (c.add-place.ensures, c.from-2.ensures, c.mul.ensures, c.from.ensures) in
-    let o : ok (places v) ≡ true = ap ok (sym is) ∙ sym c.is_ok.ensures ∙ c.if-not-is_ok.false in
-    let b = bounded v c.if-v.false c.if-not-v.false in
-    let least = upper_at_least v c.add-place.result o is (suc_ℤ (k v)) (next_float (k v) (k_normal v b)) _ (next_back v b c.floor-k.result c.floor-k.ensures) c.if-k-place.true in
-    λ a l h. c.failed-then-k-place.ensures ∙ sym (floor_above (places v) o (value (place v.lower)) (holds v (search rules) o b) (λ j. R.exp_of Rules.rules v j) least)
 
 pub exp_of-requires : goal.exp_of-requires
 exp_of-requires c =

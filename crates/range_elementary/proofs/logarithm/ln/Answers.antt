@@ -24,6 +24,7 @@ use Rattle.range.proofs.Corners.{lower_finite, upper_finite}
 use Rattle.range.proofs.Testing.{has_ends, failed_step, none_lower, none_upper, two_steps, one_step_is}
 use Rattle.range_elementary.proofs.Mantissa.{Split, not_at_most_zero, at_most_zero, scale_exact}
 use Rattle.range_elementary.proofs.logarithm.ln.Goals as goal
+use Rattle.range_elementary.proofs.logarithm.ln.Goals.{then-not-is_ok-via-then-not-is_ok, then-not-is_ok-via-else-not-is_ok+then-v, then-not-is_ok-via-else-not-is_ok+else-v+then-v-2}
 
 -- the recipe's text for an e
 abbrev body : Range → ℤ → Range
@@ -39,19 +40,11 @@ pub returns-then-not-is_ok : goal.returns-then-not-is_ok
 unfolding R.ln
 returns-then-not-is_ok c =
     let v = c.args.v in
-    c.failed.ensures ∙ sym (failed_step exponent v (body v) (sym c.is_ok.ensures ∙ c.if-not-is_ok.true))
-
-pub returns-then-v : goal.returns-then-v
-unfolding R.ln
-returns-then-v c =
-    let v = c.args.v in
-    c.failed-then-v.ensures ∙ sym (none_lower exponent v (body v) (at_most_zero v.lower (lower_number v (sym c.is_ok.ensures ∙ c.if-not-is_ok.false)) c.if-v.true))
-
-pub returns-then-v-2 : goal.returns-then-v-2
-unfolding R.ln
-returns-then-v-2 c =
-    let v = c.args.v in
-    c.failed-then-v-2.ensures ∙ sym (none_upper exponent v (body v) (at_most_zero v.upper (upper_number v (sym c.is_ok.ensures ∙ c.if-not-is_ok.false)) c.if-v-2.true))
+    c.failed.ensures ∙ sym (elim c.then-not-is_ok.branch [
+      | then-not-is_ok-via-then-not-is_ok w ↦ failed_step exponent v (body v) (sym c.is_ok.ensures ∙ w.if-not-is_ok.true)
+      | then-not-is_ok-via-else-not-is_ok+then-v w ↦ none_lower exponent v (body v) (at_most_zero v.lower (lower_number v (sym c.is_ok.ensures ∙ w.if-not-is_ok.false)) w.if-v.true)
+      | then-not-is_ok-via-else-not-is_ok+else-v+then-v-2 w ↦ none_upper exponent v (body v) (at_most_zero v.upper (upper_number v (sym c.is_ok.ensures ∙ w.if-not-is_ok.false)) w.if-v-2.true)
+    ])
 
 -- ---- past the tests of the ends
 pub float_to_bits-v : goal.float_to_bits-v

@@ -11,7 +11,7 @@ returns g c =
     let p = c.p.inside in
     let rows = c.p.invariant.0 in
     let m = c.p.invariant.1 in
-    let f = parameters A p.mixture.now in
+    let f = parameters A p.mixture in
     let d = row A c.args.d.now in
     let fluid =
     one_fluid_is A (adds A number.sum_start number.sum_step) (missing A) f.n (row A c.args.x.now) p.rep_ij p.att_ij p.sigma_ij p.eps_k_ij f.rep_ij f.att_ij f.sigma_ij f.eps_k_ij f.sigma d m.rep_are m.att_are m.sigma_are m.epsilon_are in

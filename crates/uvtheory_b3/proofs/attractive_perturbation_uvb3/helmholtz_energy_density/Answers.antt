@@ -1,14 +1,17 @@
-use Rattle.std.proofs.Common.{rules, ◌≡◌, ℕ, ◌/◌, ◌%◌, ◌∙◌, ap}
-use Rattle.uvtheory.specs.Rows.{missing, row}
-use Rattle.uvtheory.specs.Inputs.{parameters}
-use Rattle.uvtheory.specs.Wca.HardSphere.{rm_of, diameter_wca, dimensionless_diameter_q_wca}
+use Rattle.std.proofs.Common.{rules, ◌∙◌, sym, subst}
+use Rattle.uvtheory.specs.declared.parameters.Mixture.{Mixture}
+use Rattle.uvtheory.specs.Rows.{missing, row, Matrix}
+use Rattle.uvtheory.specs.Inputs.{MixtureState, parameters}
+use Rattle.uvtheory.specs.Held.{Rows, Matrices}
+use Rattle.uvtheory.specs.Wca.HardSphere.{diameter_wca}
 use Rattle.uvtheory.specs.Wca.AttractivePerturbationUvb3 as F
-use Rattle.uvtheory.proofs.Loops.{adds, row_of, column_of}
-use Rattle.uvtheory.proofs.Combined.{rep_symmetric, epsilon_symmetric}
-use Rattle.uvtheory.proofs.Sums.{matrix_at, rep_at, epsilon_at, one_fluid_held, virial_sum_held}
-use Rattle.uvtheory.proofs.Sizes.{rows_fit, tables_fit, combined_fits}
-use Rattle.uvtheory_wca.proofs.Lengths.{rm_symmetric, q_symmetric}
+use Rattle.uvtheory.proofs.Loops.{adds}
+use Rattle.uvtheory.proofs.Sums.{mean_cube_of, virial_sum_of}
+use Rattle.uvtheory.proofs.Sizes.{parameters_fit}
 use Rattle.uvtheory_b3.proofs.attractive_perturbation_uvb3.helmholtz_energy_density.Goals as goal
+
+pub one_fluid_properties-o-requires : goal.one_fluid_properties-o-requires
+one_fluid_properties-o-requires g c = let fits = parameters_fit _ _ g.met.D.DualNum.aligned g.met.D.DualNum.small in search rules
 
 pub returns : goal.returns
 unfolding F.helmholtz_energy_density F.residual_virial_coefficient F.residual_third_virial_coefficient
@@ -16,63 +19,19 @@ returns g c =
     let A = g.D.DualNum.arithmetic in
     let number = g.met.D.DualNum in
     let left = adds A number.sum_start number.sum_step in
-    let m = c.args.m.now in
-    let s = c.args.s.now in
-    let a = c.args.c.now in
-    let tables = c.args.l.now in
-    let n = m.n in
-    let t = s.temperature in
-    let held = c.requires.n_bound.1 in
-    let lengths = c.requires.n_bound.2 in
-    let p = parameters A m in
+    let none = missing A in
+    let w = c.w.inside in
+    let s = w.state.now in
+    let p = c.p.inside in
+    let f = parameters A w.parameters.now in
     let x = row A s.molefracs in
-    let rm : ℕ → ℕ → _ = λ i j. rm_of A (p.rep_ij i j) (p.att_ij i j) in
-    let q : ℕ → ℕ → _ = λ i j. dimensionless_diameter_q_wca A (A.div t (p.eps_k_ij i j)) (p.rep_ij i j) (p.att_ij i j) in
-    let one_fluid = one_fluid_held A m a held left x c.args.d.now (diameter_wca A p t) c.requires.n_bound.3 in
-    let virial = virial_sum_held A m a held left x 3 c.delta_b2_ij-b2.result (F.delta_b2_ij A p t)
-    (λ k l. c.delta_b2_ij-b2.ensures k l ∙ rw (
-      matrix_at (missing A) n tables.q q lengths.q_are k l,
-      matrix_at (missing A) n tables.rm rm lengths.rm_are k l,
-      rep_at A m a held k l,
-      epsilon_at A m a held k l,
-    )) in
-    let sigma : (i : ℕ) → row A c.constants-sigma.result i ≡ p.sigma i = λ i. ap (λ (f : ℕ → _). f i) c.constants-sigma.ensures in
-    let third = virial_sum_held A m a held left x 6 c.delta_b3_ij-b3.result (F.delta_b3_ij A p t (diameter_wca A p t))
-    (λ k l. c.delta_b3_ij-b3.ensures k l ∙ rw (
-      sigma (k / n),
-      sigma (k % n),
-      matrix_at (missing A) n tables.q q lengths.q_are k l,
-      matrix_at (missing A) n tables.rm rm lengths.rm_are k l,
-      rep_at A m a held k l,
-      epsilon_at A m a held k l,
-      c.requires.n_bound.3 (k / n) (row_of n k l),
-      c.requires.n_bound.3 (k % n) (column_of n k l),
-    )) in
-    c.energy.ensures ∙ rw (
-      number.mul_is _ _ _ c.mul.ensures,
-      c.one_fluid_properties-o.ensures,
-      c.mean_cube.ensures,
-      c.constants-sigma.ensures,
-      one_fluid,
-      c.virial_sum-b2bar.ensures,
-      virial,
-      c.virial_sum-b3bar.ensures,
-      third,
-      c.requires.density_value,
-    )
-
-pub delta_b2_ij-b2-requires : goal.delta_b2_ij-b2-requires
-delta_b2_ij-b2-requires g c =
-    let A = g.D.DualNum.arithmetic in
-    let aligned = g.met.D.DualNum.aligned in
-    let small = g.met.D.DualNum.small in
-    let rows = rows_fit _ _ aligned small in
-    let tables = tables_fit _ _ aligned small in
-    let combined = combined_fits _ _ aligned small in
-    let h = c.requires.n_bound.1 in
-    let l = c.requires.n_bound.2 in
-    let rep = rep_symmetric A h in
-    let eps = epsilon_symmetric A h in
-    let q = q_symmetric A l in
-    let rm = rm_symmetric A l in
-    search rules
+    let rows = subst (λ (m : Mixture). Rows A m p.rep p.att p.sigma p.epsilon_k) c.p.view_is c.p.invariant.0 in
+    let matrices = subst (λ (m : Mixture). Matrices A m p.rep_ij p.att_ij p.sigma_ij p.eps_k_ij) c.p.view_is c.p.invariant.1 in
+    let diameters = mean_cube_of A left none f.n x w.d (diameter_wca A f s.temperature) c.w.invariant.0.d_are in
+    let b2 = subst (λ (s : MixtureState _). Matrix A s.mixture.n c.delta_b2_ij.result (F.delta_b2_ij A (parameters A s.mixture) s.state.temperature)) (sym c.w.view_is) c.delta_b2_ij.ensures in
+    let virial = virial_sum_of A left none f.n x p.sigma_ij f.sigma_ij matrices.sigma_are 3 c.delta_b2_ij.result (F.delta_b2_ij A f s.temperature) b2 in
+    let d = λ (s : MixtureState _). diameter_wca A (parameters A s.mixture) s.state.temperature in
+    let b3 = subst (λ (s : MixtureState _). Matrix A s.mixture.n c.delta_b3_ij.result (F.delta_b3_ij A (parameters A s.mixture) s.state.temperature (d s))) (sym c.w.view_is) c.delta_b3_ij.ensures in
+    let third = virial_sum_of A left none f.n x p.sigma_ij f.sigma_ij matrices.sigma_are 6 c.delta_b3_ij.result (F.delta_b3_ij A f s.temperature (diameter_wca A f s.temperature)) b3 in
+    rw (← c.w.view_is) (c.energy.ensures
+    ∙ rw (c.one_fluid_properties-o.ensures, diameters, number.mul_is _ _ _ c.mul.ensures, c.mean_cube.ensures, c.sum-density.ensures, c.virial_sum-b2bar.ensures, c.virial_sum-b3bar.ensures, c.p.view_is, rows.sigma_are, virial, third))

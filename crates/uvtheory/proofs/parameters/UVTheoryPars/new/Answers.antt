@@ -7,7 +7,7 @@ use Rattle.uvtheory.proofs.parameters.UVTheoryPars.new.Goals as goal
 pub invariant_of-result : goal.invariant_of-result
 invariant_of-result g c =
     let A = g.D.DualNum.arithmetic in
-    let m = c.args.mixture.now in
+    let m = c.args.m.now in
     let root : (v : ℕ → _) → ℕ → ℕ → _ = λ v i j. A.sqrt (A.mul (v i) (v j)) in
     let mean : (v : ℕ → _) → ℕ → ℕ → _ = λ v i j. A.mul (A.constant half) (A.add (v i) (v j)) in
     let weighted : (v : ℕ → _) → ℕ → ℕ → _ = λ v i j. A.mul (A.sub (A.constant one) (A.constant (doubles m.k_ij (place m.n i j)))) (A.sqrt (A.mul (v i) (v j))) in (

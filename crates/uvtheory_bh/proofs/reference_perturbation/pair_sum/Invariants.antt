@@ -1,9 +1,0 @@
-use Rattle.std.proofs.Common.{◌≡◌, ◌*◌, ◌/◌, ◌%◌, ◌≤◌}
-use Rattle.uvtheory.specs.Rows.{row, matrix}
-use Rattle.uvtheory.specs.Bh.ReferencePerturbation as F
-use Rattle.uvtheory_bh.proofs.reference_perturbation.pair_sum.Given as goal
-
-abbrev pub invariant-loop-k : goal.invariant-loop-k
-invariant-loop-k g l =
-    let A = g.D.DualNum.arithmetic in
-    (l.k ≤ l.n * l.n) × (l.sum ≡ A.sum l.k (λ k. F.term_ij A (row A l.x) (row A l.d) (row A l.sigma) (matrix A l.n l.sigma_ij) (matrix A l.n l.rep_ij) l.eta (k / l.n) (k % l.n)))
