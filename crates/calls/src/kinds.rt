@@ -5,7 +5,8 @@ ghost use Rattle.calls.specs.Answers.{answer_of, beyond, result_of, staged, test
 ghost use Rattle.calls.specs.declared.kinds.Kind.TheVariants as Kinds;
 
 use answer::Answer;
-use case_record::case::{BoundedCase, case_of};
+use case_record::case::{Case, WholeRecord};
+use case_record::layout::header_of;
 use checks::{envelope, require, state, substances};
 use eos::contributions::contributions;
 use eos::states::{sent, started};
@@ -30,10 +31,9 @@ fn are_finite(x: f64, y: f64, z: f64) -> bool
 }
 
 // The energies of a case whose record the checks pass, or code 9.
-fn energies_of(c: BoundedCase) -> Result<Answer, Refusal>
-    ensures { result ≡ worked_of Kinds.Energies c.case }
+fn energies_of(c: &Case) -> Result<Answer, Refusal>
+    ensures { result ≡ worked_of Kinds.Energies c.now }
 {
-    let c = c.case;
     let e = contributions::<Double>(c.perturbation, &c.mixture, &sent(&c.state));
     let x = f64::from(e.hard_sphere);
     let y = f64::from(e.reference);
@@ -43,10 +43,9 @@ fn energies_of(c: BoundedCase) -> Result<Answer, Refusal>
 }
 
 // The ranges of the three, or code 10.
-fn ranges_of(c: BoundedCase) -> Result<Answer, Refusal>
-    ensures { result ≡ tested (beyond Kinds.Ends c.case) (result_of Kinds.Ends c.case) }
+fn ranges_of(c: &Case) -> Result<Answer, Refusal>
+    ensures { result ≡ tested (beyond Kinds.Ends c.now) (result_of Kinds.Ends c.now) }
 {
-    let c = c.case;
     let e = contributions::<Range>(c.perturbation, &c.mixture, &sent(&c.state));
     let are_ok = e.hard_sphere.is_ok() & e.reference.is_ok() & e.attractive.is_ok();
     require(are_ok, Refusal::Ends)?;
@@ -54,18 +53,17 @@ fn ranges_of(c: BoundedCase) -> Result<Answer, Refusal>
 }
 
 // The ends of a case. The energies are worked first: a case without them has no ends.
-fn ends_of(c: BoundedCase) -> Result<Answer, Refusal>
-    ensures { result ≡ worked_of Kinds.Ends c.case }
+fn ends_of(c: &Case) -> Result<Answer, Refusal>
+    ensures { result ≡ worked_of Kinds.Ends c.now }
 {
     energies_of(c)?;
     ranges_of(c)
 }
 
 // The energies with their slopes. Their values are the energies: code 9 is due by them, and before 11.
-fn slopes_of(c: BoundedCase) -> Result<Answer, Refusal>
-    ensures { result ≡ worked_of Kinds.Slopes c.case }
+fn slopes_of(c: &Case) -> Result<Answer, Refusal>
+    ensures { result ≡ worked_of Kinds.Slopes c.now }
 {
-    let c = c.case;
     let e = contributions(c.perturbation, &c.mixture, &started(&c.state));
     require(
         are_finite(e.hard_sphere.value, e.reference.value, e.attractive.value),
@@ -83,13 +81,17 @@ fn worked(kind: Kind, record: &[u8]) -> Result<Answer, Refusal>
     ensures { result ≡ staged kind «record».now }
 {
     envelope(record)?;
-    let c = case_of(record);
-    substances(c)?;
-    state(c)?;
+    let whole = WholeRecord {
+        bytes: record,
+        header: header_of(record),
+    };
+    let c = whole.case();
+    substances(&c)?;
+    state(&c)?;
     match kind {
-        Kind::Energies => energies_of(c),
-        Kind::Ends => ends_of(c),
-        Kind::Slopes => slopes_of(c),
+        Kind::Energies => energies_of(&c),
+        Kind::Ends => ends_of(&c),
+        Kind::Slopes => slopes_of(&c),
     }
 }
 

@@ -2,7 +2,7 @@
 use Prim.Native.Nat.{ℕ, zero, suc, ◌+◌, ◌-◌, ◌*◌, ◌≤◌, ◌<◌}
 use mathlib.Core.Path.{◌≡◌, refl, sym, ap, ap₂, ◌∙◌}
 use mathlib.Core.Bool.{not}
-use mathlib.Core.List.{List, [], ◌∷◌, ◌++◌, append-nil}
+use mathlib.Core.List.{List, [], ◌∷◌, ◌++◌}
 use native.Mathlib.Omega.{arith}
 use lib.Dec.{T}
 use lib.ListN.{length, get_or, take, drop, length-append, length-drop, take-append-drop}
@@ -35,7 +35,7 @@ field_of_read s h (suc (suc (suc (suc j)))) p = absurd (four j p)
     four j p = omega arith
 
 -- its doubles are those that are written of it
-pub double_of_read : (s : List ℕ) (h : Header) (k : ℕ) → k < (layout_of h).doubles → double_of h (mixture_of s h) (state_of s h) k ≡ double s k
+double_of_read : (s : List ℕ) (h : Header) (k : ℕ) → k < (layout_of h).doubles → double_of h (mixture_of s h) (state_of s h) k ≡ double s k
 unfolding mixture_of state_of
 double_of_read s h =
     let m = mixture_of s h in
@@ -102,11 +102,11 @@ same_state : {a b : State Float} → a.temperature ≡ b.temperature → a.parti
 same_state temperature density fraction = λ i. record { temperature = temperature i; partial_density = density i; molefracs = fraction i }
 
 module _ (h : Header) (m : Mixture) (t : State Float) (rest : List ℕ) where
-  pub header_read : header_of (record_bytes h m t ++ rest) ≡ h
+  header_read : header_of (record_bytes h m t ++ rest) ≡ h
   unfolding bytes_of
   header_read = refl
 
-  pub length_read : h.n ≤ 8 → length_field (record_bytes h m t ++ rest) ≡ length_of h
+  length_read : h.n ≤ 8 → length_field (record_bytes h m t ++ rest) ≡ length_of h
   unfolding bytes_of
   length_read l = bytes.read_written 2 (length_of h) [] (h.version ∷ h.perturbation ∷ h.n ∷ (doubles_bytes (values (layout_of h).doubles (double_of h m t)) ++ rest)) (omega (arith, few_doubles h l))
 
@@ -120,7 +120,7 @@ module _ (h : Header) (m : Mixture) (t : State Float) (rest : List ℕ) where
       (λ i a. rw (density_at h m t i a) (p.partial_density.doubles i a))
       (λ i a. rw (fraction_at h m t i a) (p.molefracs.doubles i a))
 
-  pub double_written : Padded h.n m t → (k : ℕ) → k < (layout_of h).doubles → double (record_bytes h m t ++ rest) k ≡ double_of h m t k
+  double_written : Padded h.n m t → (k : ℕ) → k < (layout_of h).doubles → double (record_bytes h m t ++ rest) k ≡ double_of h m t k
   unfolding bytes_of
   double_written p k l =
       let f = double_of h m t in
@@ -139,7 +139,7 @@ module _ (h : Header) (m : Mixture) (t : State Float) (rest : List ℕ) where
     field_read : (j : ℕ) → j < 4 → row 8 h.n (column s j 4) ≡ field_of m j
     field_read j a = row_read 8 h.n j 4 (field_of m j) (field_padded p j) (λ i b. omega arith) (λ i b. substance_at h m t j i a b)
 
-    pub mixture_read : mixture_of s h ≡ m
+    mixture_read : mixture_of s h ≡ m
     unfolding mixture_of
     mixture_read = same_mixture (sym p.count)
         (field_read 0 (omega arith))
@@ -148,13 +148,13 @@ module _ (h : Header) (m : Mixture) (t : State Float) (rest : List ℕ) where
         (field_read 3 (omega arith))
         (row_read 28 (pairs h.n) (layout_of h).k_ij 1 m.k_ij p.k_ij (λ i b. omega arith) (k_ij_at h m t))
 
-    pub state_read : state_of s h ≡ t
+    state_read : state_of s h ≡ t
     unfolding state_of
     state_read = same_state (double_written p (layout_of h).temperature (omega arith) ∙ temperature_at h m t)
         (row_read 8 h.n (layout_of h).partial_density 1 t.partial_density p.partial_density (λ i b. omega arith) (density_at h m t))
         (row_read 8 h.n (layout_of h).molefracs 1 t.molefracs p.molefracs (λ i b. omega arith) (fraction_at h m t))
 
-pub record_length : (h : Header) (m : Mixture) (t : State Float) → length (record_bytes h m t) ≡ 2 + length_of h
+record_length : (h : Header) (m : Mixture) (t : State Float) → length (record_bytes h m t) ≡ 2 + length_of h
 unfolding bytes_of
 record_length h m t = let xs = values (layout_of h).doubles (double_of h m t) in omega (arith, length_doubles xs, length_values (layout_of h).doubles (double_of h m t))
 
@@ -169,18 +169,6 @@ read_written h m t rest l p = (
   length_read h m t rest l,
   length-append (record_bytes h m t) rest ∙ ap (λ (n : ℕ). n + length rest) (record_length h m t),
 )
-
--- and for the record alone
-pub read_alone : (h : Header) (m : Mixture) (t : State Float) → h.n ≤ 8 → Padded h.n m t
-    → let s = record_bytes h m t in (header_of s ≡ h) × (mixture_of s h ≡ m) × (state_of s h ≡ t) × (length_field s ≡ length_of h) × (length s ≡ 2 + length_of h)
-read_alone h m t l p =
-    let e : record_bytes h m t ++ [] ≡ record_bytes h m t = append-nil (record_bytes h m t) in (
-      ap header_of (sym e) ∙ header_read h m t [],
-      ap (λ (s : List ℕ). mixture_of s h) (sym e) ∙ mixture_read h m t [] p,
-      ap (λ (s : List ℕ). state_of s h) (sym e) ∙ state_read h m t [] p,
-      ap length_field (sym e) ∙ length_read h m t [] l,
-      record_length h m t,
-    )
 
 -- the case that is read
 pub case_read : (h : Header) (m : Mixture) (t : State Float) (rest : List ℕ) → Padded h.n m t

@@ -1,10 +1,9 @@
 -- A record that is written piece by piece: its header, then one double after the other.
-use Prim.Native.Nat.{ℕ, zero, suc, ◌+◌, ◌*◌, ◌/◌, ◌%◌, ◌<◌, ◌≤◌}
-use mathlib.Core.Path.{◌≡◌, sym, ap, ◌∙◌}
-use mathlib.Core.List.{List, [], ◌∷◌, ◌++◌}
+use Prim.Native.Nat.{ℕ, ◌+◌, ◌*◌, ◌≤◌}
+use mathlib.Core.Path.{◌≡◌, ◌∙◌}
+use mathlib.Core.List.{List, ◌++◌}
 use native.Mathlib.Numerals.{add-one}
-use native.Mathlib.Omega.{arith}
-use lib.ListN.{length, get_or, take, drop}
+use lib.ListN.{length, take, drop}
 use lib.Ieee.{Float}
 use Rattle.uvtheory.specs.declared.parameters.Mixture.{Mixture}
 use Rattle.uvtheory.specs.declared.parameters.State.{State}
@@ -12,43 +11,20 @@ use Rattle.big_endian.specs.Bytes.{bytes_of, double_bytes, doubles_bytes, writte
 use Rattle.big_endian.proofs.Written as Written
 use Rattle.big_endian.proofs.Written.{again, append_below, begun, bytes_below, doubles_below}
 use Rattle.case_record.specs.declared.layout.Header.{Header}
-use Rattle.case_record.specs.Layout.{layout_of, length_of}
+use Rattle.case_record.specs.Layout.{layout_of}
 use Rattle.case_record.specs.Record.{values}
 use Rattle.case_record.specs.Writing.{double_of, header_bytes, record_bytes}
-use Rattle.case_record.proofs.Sizes.{few_doubles}
 use Rattle.case_record.proofs.Rows.{length_values}
 
--- ---- the header
-two_bytes : (n : ℕ) → n < 65536 → bytes_of n 2 ≡ n / 256 ∷ n % 256 ∷ []
-unfolding bytes_of
-two_bytes n h =
-    let e : n / 256 % 256 ≡ n / 256 = omega arith in
-    let f : n / 1 % 256 ≡ n % 256 = omega arith in
-    rw (e, f)
-
-pub header_written : (h : Header) (n : ℕ) → h.n ≤ 8 → n ≡ length_of h → n / 256 ∷ n % 256 ∷ h.version ∷ h.perturbation ∷ h.n ∷ [] ≡ header_bytes h
-header_written h n l e =
-    rw e (ap (λ (b : List ℕ). b ++ (h.version ∷ h.perturbation ∷ h.n ∷ [])) (sym (two_bytes (length_of h) (omega (arith, few_doubles h l)))))
-
 -- ---- the doubles
-pub double_more : (l : List ℕ) (f : ℕ → Float) → 5 ≤ length l → (k : ℕ) {l₁ l₂ : List ℕ} → l₁ ≡ written l (begun l 5 (values k f))
-    → l₂ ≡ take (5 + 8 * k) l₁ ++ double_bytes (f k) ++ drop (5 + 8 * k + 8) l₁
+pub double_more : (l : List ℕ) (f : ℕ → Float) (k : ℕ) (x : Float) (l₁ l₂ : List ℕ) → l₁ ≡ written l (begun l 5 (values k f)) → x ≡ f k → 5 ≤ length l
+    → l₂ ≡ take (5 + 8 * k) l₁ ++ double_bytes x ++ drop (5 + 8 * k + 8) l₁
     → l₂ ≡ written l (begun l 5 (values (k + 1) f))
 unfolding values
-double_more l f h k {l₁} e₁ e₂ = rw (add-one k) (Written.double_more l 5 h (values k f) (f k) e₁ (rw (length_values k f) e₂))
+double_more l f k x l₁ l₂ e₁ e h e₂ = rw (add-one k) (Written.double_more l 5 h (values k f) (f k) e₁ (rw (length_values k f) (rw e at e₂)))
 
 pub whole_record : (l : List ℕ) (h : Header) (m : Mixture) (t : State Float) {l₁ l₂ : List ℕ} → l₁ ≡ written l (header_bytes h)
     → l₂ ≡ written l₁ (take 5 l₁ ++ doubles_bytes (values (layout_of h).doubles (double_of h m t)))
     → l₂ ≡ written l (record_bytes h m t)
 unfolding bytes_of
 whole_record l h m t e₁ e₂ = e₂ ∙ rw e₁ (again (header_bytes h) (doubles_bytes (values (layout_of h).doubles (double_of h m t))) l)
-
--- what is written are bytes
-pub record_bytes_below : (h : Header) (m : Mixture) (t : State Float) → h.version < 256 → h.perturbation < 256 → h.n ≤ 8 → (i : ℕ) → get_or (record_bytes h m t) i 0 < 256
-record_bytes_below h m t v p n = append_below (bytes_of (length_of h) 2) _ (bytes_below (length_of h) 2) behind
-  where
-    behind : (i : ℕ) → get_or (h.version ∷ h.perturbation ∷ h.n ∷ doubles_bytes (values (layout_of h).doubles (double_of h m t))) i 0 < 256
-    behind zero = v
-    behind (suc zero) = p
-    behind (suc (suc zero)) = omega arith
-    behind (suc (suc (suc i))) = doubles_below (values (layout_of h).doubles (double_of h m t)) i

@@ -14,28 +14,28 @@ use Rattle.case_record.specs.Writing.{double_of, field_of}
 use Rattle.case_record.proofs.Values.{below_or_from}
 
 module _ (h : Header) (m : Mixture) (t : State Float) (k : ℕ) where
-  pub in_substances : k < (layout_of h).k_ij → double_of h m t k ≡ get_or (field_of m (k % 4)) (k / 4) nan
+  in_substances : k < (layout_of h).k_ij → double_of h m t k ≡ get_or (field_of m (k % 4)) (k / 4) nan
   unfolding double_of
   in_substances below = rw (lt-ltb k (layout_of h).k_ij below)
 
-  pub in_k_ij : (layout_of h).k_ij ≤ k → k < (layout_of h).temperature → double_of h m t k ≡ get_or m.k_ij (k - (layout_of h).k_ij) nan
+  in_k_ij : (layout_of h).k_ij ≤ k → k < (layout_of h).temperature → double_of h m t k ≡ get_or m.k_ij (k - (layout_of h).k_ij) nan
   unfolding double_of
   in_k_ij from below = rw (le-ltb k (layout_of h).k_ij from, lt-ltb k (layout_of h).temperature below)
 
-  pub in_temperature : (layout_of h).temperature ≤ k → k < (layout_of h).partial_density → double_of h m t k ≡ t.temperature
+  in_temperature : (layout_of h).temperature ≤ k → k < (layout_of h).partial_density → double_of h m t k ≡ t.temperature
   unfolding double_of
   in_temperature from below =
       let a : (layout_of h).k_ij ≤ k = omega arith in
       rw (le-ltb k (layout_of h).k_ij a, le-ltb k (layout_of h).temperature from, lt-ltb k (layout_of h).partial_density below)
 
-  pub in_densities : (layout_of h).partial_density ≤ k → k < (layout_of h).molefracs → double_of h m t k ≡ get_or t.partial_density (k - (layout_of h).partial_density) nan
+  in_densities : (layout_of h).partial_density ≤ k → k < (layout_of h).molefracs → double_of h m t k ≡ get_or t.partial_density (k - (layout_of h).partial_density) nan
   unfolding double_of
   in_densities from below =
       let a : (layout_of h).k_ij ≤ k = omega arith in
       let b : (layout_of h).temperature ≤ k = omega arith in
       rw (le-ltb k (layout_of h).k_ij a, le-ltb k (layout_of h).temperature b, le-ltb k (layout_of h).partial_density from, lt-ltb k (layout_of h).molefracs below)
 
-  pub in_fractions : (layout_of h).molefracs ≤ k → double_of h m t k ≡ get_or t.molefracs (k - (layout_of h).molefracs) nan
+  in_fractions : (layout_of h).molefracs ≤ k → double_of h m t k ≡ get_or t.molefracs (k - (layout_of h).molefracs) nan
   unfolding double_of
   in_fractions from =
       let a : (layout_of h).k_ij ≤ k = omega arith in

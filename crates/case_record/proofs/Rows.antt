@@ -1,5 +1,5 @@
 -- Arrays that are filled from the front.
-use Prim.Native.Nat.{ℕ, zero, suc, ◌-◌, ◌<◌}
+use Prim.Native.Nat.{ℕ, zero, suc, ◌+◌, ◌-◌, ◌<◌}
 use mathlib.Core.Path.{◌≡◌, refl, ap, ◌∙◌}
 use mathlib.Core.List.{List, [], ◌∷◌, ◌++◌, append_assoc}
 use native.Mathlib.Nat.{sub-zero, zero-sub, suc-sub-suc}
@@ -16,9 +16,9 @@ length_values zero f = refl
 length_values (suc n) f = length-append (values n f) (f n ∷ []) ∙ rw (length_values n f) (add-one n)
 
 -- a store of the next value
-pub value_more : (n : ℕ) (f : ℕ → Float) (l : List Float) → n < length l → set (values n f ++ drop n l) n (f n) ≡ values (suc n) f ++ drop (suc n) l
+pub value_more : (n : ℕ) (f : ℕ → Float) (l xs : List Float) (x : Float) → xs ≡ values n f ++ drop n l → x ≡ f n → n < length l → set xs n x ≡ values (n + 1) f ++ drop (n + 1) l
 unfolding values
-value_more n f l h = rw (drop-cons l n nan h) (set_at (values n f) _ _ (f n) n (length_values n f) ∙ rw append_assoc refl)
+value_more n f l xs x e e' h = rw (e, e', add-one n, drop-cons l n nan h) (set_at (values n f) _ _ (f n) n (length_values n f) ∙ rw append_assoc refl)
 
 drop_replicate : (n size : ℕ) (x : Float) → drop n (replicate size x) ≡ replicate (size - n) x
 drop_replicate zero size x = rw sub-zero refl

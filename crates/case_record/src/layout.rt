@@ -2,10 +2,11 @@
 ghost use Rattle.std.specs.Prelude.{◌≡◌, ◌≤◌, cond, length};
 ghost use Rattle.case_record.specs.Layout.{header_of, is_perturbation, layout_of, length_of, pairs, perturbation_of};
 
+use uvtheory::components::Components;
 use uvtheory::eos::Perturbation;
 
 // What a record says of itself, behind its length.
-#[derive(Clone, Copy)]
+#[derive(Clone, Copy, Debug, PartialEq, Eq)]
 pub struct Header {
     pub version: u8,
     pub perturbation: u8,
@@ -13,7 +14,7 @@ pub struct Header {
 }
 
 // Where the fields behind the substances begin, counted in doubles behind n, and how many doubles there are.
-#[derive(Clone, Copy)]
+#[derive(Clone, Copy, Debug, PartialEq, Eq)]
 pub struct Layout {
     pub k_ij: usize,
     pub temperature: usize,
@@ -53,10 +54,10 @@ pub fn perturbation_of(byte: u8) -> Perturbation
 }
 
 // How many pairs i below j there are.
-pub fn pairs(n: usize) -> usize
-    requires { n ≤ 8 }
+pub fn pairs(n: Components) -> usize
     ensures { (result ≡ pairs n) × (result ≤ 28) }
 {
+    let n = n.get();
     n * n.saturating_sub(1) / 2
 }
 
@@ -66,7 +67,7 @@ pub fn layout_of(h: Header) -> Layout
 {
     let n = h.n;
     let k_ij = 4 * n;
-    let temperature = k_ij + pairs(n);
+    let temperature = k_ij + pairs(Components::new(n));
     let partial_density = temperature + 1;
     let molefracs = partial_density + n;
     let doubles = molefracs + n;

@@ -19,9 +19,9 @@ pub struct Contents {
 }
 
 // The k-th double of the substances: the four fields of the first, then those of the second, ..
-fn substance_double(m: Mixture, k: usize) -> f64
+fn substance_double(m: &Mixture, k: usize) -> f64
     requires { k < 32 }
-    ensures { result ≡ get_or (field_of m (k % 4)) (k / 4) nan }
+    ensures { result ≡ get_or (field_of m.now (k % 4)) (k / 4) nan }
 {
     let i = k / 4;
     match k % 4 {
@@ -33,13 +33,14 @@ fn substance_double(m: Mixture, k: usize) -> f64
 }
 
 // The k-th double of the record, counted from 0.
-fn double_of(c: Contents, k: usize) -> f64
-    requires { k < (layout_of c.header).doubles }
-    ensures { result ≡ double_of c.header c.mixture c.state k }
+#[tactic(auto, unfolding(crate::specs::Writing::double_of), using(crate::proofs::Sizes::few_pairs))]
+fn double_of(c: &Contents, k: usize) -> f64
+    requires { k < (layout_of c.now.header).doubles }
+    ensures { result ≡ double_of c.now.header c.now.mixture c.now.state k }
 {
     let l = layout_of(c.header);
     if k < l.k_ij {
-        return substance_double(c.mixture, k);
+        return substance_double(&c.mixture, k);
     }
     if k < l.temperature {
         return c.mixture.k_ij[k - l.k_ij];
@@ -64,9 +65,10 @@ fn put_header(out: &mut [u8], h: Header)
 }
 
 // Writes the record over the buffer's first bytes.
-pub fn write_record(out: &mut [u8], c: Contents)
-    requires { 2 + length_of c.header ≤ length out.old }
-    ensures { out.new ≡ written out.old (record_bytes c.header c.mixture c.state) }
+#[tactic(auto, unfolding(crate::specs::Record::values), using(crate::proofs::Pieces::whole_record, big_endian::proofs::Written::none_yet))]
+pub fn write_record(out: &mut [u8], c: &Contents)
+    requires { 2 + length_of c.now.header ≤ length out.old }
+    ensures { out.new ≡ written out.old (record_bytes c.now.header c.now.mixture c.now.state) }
 {
     put_header(out, c.header);
     for k in 0..layout_of(c.header).doubles {

@@ -1,5 +1,5 @@
 -- What follows from tests that pass: what is due of two stages, and that a record whose envelope passes has all the bytes of its header.
-use Prim.Native.Nat.{ℕ, ◌-◌, ◌≤◌}
+use Prim.Native.Nat.{ℕ, ◌-◌}
 use mathlib.Core.Path.{◌≡◌, refl}
 use mathlib.Core.Bool.{Bool, true, false, ◌&&◌, false≢true}
 use mathlib.Core.List.{List, [], ◌∷◌, ◌++◌}
@@ -34,19 +34,12 @@ both true b e = (refl, e)
 both false b e = absurd (false≢true e)
 
 -- ---- a record whose envelope passes
-module _ (s : List ℕ) (e : first_failing (envelope s) ≡ Ok tt) where
-  pub not_empty : 1 ≤ (header_of s).n
-  not_empty =
-      let n = (header_of s).n in
-      let (_, (_, (_, (components, _)))) = all_passed (envelope s) e in
-      leb-true 1 n (both (leb 1 n) (leb n 8) components).0
-
-  pub whole : Whole s (header_of s)
-  whole =
-      let h = header_of s in
-      let (length_and_bytes, (_, (_, (components, (size, _))))) = all_passed (envelope s) e in
-      let (long, counted) = both (leb 5 (length s)) (eqb (length_field s) (length s - 2)) length_and_bytes in
-      let few = (both (leb 1 h.n) (leb h.n 8) components).1 in (
-        leb-true h.n 8 few,
-        omega (arith, leb-true 5 (length s) long, eqb-true (length_field s) (length s - 2) counted, eqb-true (length_field s) (length_of h) size),
-      )
+pub whole : (s : List ℕ) → first_failing (envelope s) ≡ Ok tt → Whole s (header_of s)
+whole s e =
+    let h = header_of s in
+    let (length_and_bytes, (_, (_, (components, (size, _))))) = all_passed (envelope s) e in
+    let (long, counted) = both (leb 5 (length s)) (eqb (length_field s) (length s - 2)) length_and_bytes in
+    let few = (both (leb 1 h.n) (leb h.n 8) components).1 in (
+      leb-true h.n 8 few,
+      omega (arith, leb-true 5 (length s) long, eqb-true (length_field s) (length s - 2) counted, eqb-true (length_field s) (length_of h) size),
+    )

@@ -1,19 +1,21 @@
 // The checks of a record, in stages: the envelope, the substances, the state.
 #![tactic(auto)]
 
-ghost use Rattle.std.specs.Prelude.{◌≡◌, ◌≤◌, [], ◌∷◌};
+ghost use Rattle.std.specs.Prelude.{◌≡◌, ◌≤◌, [], ◌∷◌, length};
 ghost use Rattle.std.specs.List.{list_all};
 ghost use Rattle.arithmetic.specs.Doubles.{guarded};
 ghost use Rattle.uvtheory.specs.Rows.{doubles};
-ghost use Rattle.checks.specs.Checks.{envelope, first_failing, inside, state, state_inside, substances, substances_inside};
+ghost use Rattle.checks.specs.Checks.{all_inside, envelope, first_failing, inside, state, state_inside, substances, substances_inside};
 
 use big_endian::big_endian2;
-use case_record::case::BoundedCase;
+use case_record::case::Case;
 use case_record::layout::{header_of, length_of, pairs, perturbation_named};
 use num_dual::double::Double;
 use refusal::Refusal;
 use uvtheory::arrays::constants;
+use uvtheory::components::Components;
 use uvtheory::hard_sphere::sum;
+use uvtheory::parameters::{Mixture, State};
 
 // A closed interval: its lower and its upper limit.
 #[derive(Clone, Copy)]
@@ -51,37 +53,43 @@ impl Interval {
     {
         values.iter().all(|x| self.contains(*x))
     }
+
+    // Whether each of the first n does.
+    #[tactic(auto, using(crate::proofs::Inside::of_the_first))]
+    fn contains_first(self, n: usize, values: &[f64]) -> bool
+        requires { n ≤ length values.now }
+        ensures { result ≡ all_inside self n values.now }
+    {
+        self.contains_all(&values[..n])
+    }
 }
 
-#[tactic(auto, unfolding(crate::specs::Checks::substances_inside), using(crate::proofs::Inside::of_the_first))]
-fn substances_inside(c: BoundedCase) -> bool
-    ensures { result ≡ substances_inside c.case.mixture }
+#[tactic(auto, unfolding(crate::specs::Checks::substances_inside))]
+fn substances_inside(m: &Mixture) -> bool
+    ensures { result ≡ substances_inside m.now }
 {
-    let m = c.case.mixture;
-    REP.contains_all(&m.rep[..m.n])
-        & ATT.contains_all(&m.att[..m.n])
-        & SIGMA.contains_all(&m.sigma[..m.n])
-        & EPSILON_K.contains_all(&m.epsilon_k[..m.n])
-        & K_IJ.contains_all(&m.k_ij[..pairs(m.n)])
+    let n = m.n.get();
+    REP.contains_first(n, &m.rep)
+        & ATT.contains_first(n, &m.att)
+        & SIGMA.contains_first(n, &m.sigma)
+        & EPSILON_K.contains_first(n, &m.epsilon_k)
+        & K_IJ.contains_first(pairs(m.n), &m.k_ij)
 }
 
 // The vector sum of the first n doubles.
-fn vector_sum(n: usize, values: &[f64; 8]) -> f64
-    requires { n ≤ 8 }
+fn vector_sum(n: Components, values: &[f64; 8]) -> f64
     ensures { result ≡ guarded.sum n (doubles values.now) }
 {
     sum::<Double>(n, &constants(values)).into()
 }
 
-#[tactic(auto, unfolding(crate::specs::Checks::state_inside), using(crate::proofs::Inside::of_the_first))]
-fn state_inside(c: BoundedCase) -> bool
-    ensures { result ≡ state_inside c.case.mixture.n c.case.state }
+#[tactic(auto, unfolding(crate::specs::Checks::state_inside))]
+fn state_inside(n: Components, state: &State<f64>) -> bool
+    ensures { result ≡ state_inside n state.now }
 {
-    let n = c.case.mixture.n;
-    let state = c.case.state;
     TEMPERATURE.contains(state.temperature)
-        & DENSITY.contains_all(&state.partial_density[..n])
-        & FRACTION.contains_all(&state.molefracs[..n])
+        & DENSITY.contains_first(n.get(), &state.partial_density)
+        & FRACTION.contains_first(n.get(), &state.molefracs)
         & FRACTION_SUM.contains(vector_sum(n, &state.molefracs))
 }
 
@@ -110,15 +118,15 @@ pub fn envelope(record: &[u8]) -> Result<(), Refusal>
 }
 
 // The code 7.
-pub fn substances(c: BoundedCase) -> Result<(), Refusal>
-    ensures { result ≡ first_failing (substances c.case) }
+pub fn substances(c: &Case) -> Result<(), Refusal>
+    ensures { result ≡ first_failing (substances c.now) }
 {
-    require(substances_inside(c), Refusal::Substances)
+    require(substances_inside(&c.mixture), Refusal::Substances)
 }
 
 // The code 8.
-pub fn state(c: BoundedCase) -> Result<(), Refusal>
-    ensures { result ≡ first_failing (state c.case) }
+pub fn state(c: &Case) -> Result<(), Refusal>
+    ensures { result ≡ first_failing (state c.now) }
 {
-    require(state_inside(c), Refusal::State)
+    require(state_inside(c.mixture.n, &c.state), Refusal::State)
 }

@@ -86,7 +86,7 @@ module _ (room : ℕ) (answer : List ℕ → List ℕ) where
   alone_is : (r alone : List ℕ) → room ≤ length alone → take (length (answer r)) (call_buffer room (answer r) alone) ≡ answer r
   alone_is r alone h = simp (le-ltb (length alone) room h, take-append_seam) refl
 
-  pub every_run : (s b : List ℕ) → Apart room answer s b (run_of room answer s b)
+  every_run : (s b : List ℕ) → Apart room answer s b (run_of room answer s b)
   every_run s b =
       let i = answered (length s) s b in
       record {

@@ -16,9 +16,6 @@ use Rattle.noddyfir.specs.Run.{Next, UsedUp, Broken, Whole, Outcome, after, next
 
 -- ---- the front of the bytes left
 module _ (t : List ℕ) where
-  pub used_up : length t ≡ 0 → next_of t ≡ UsedUp
-  used_up e = simp (eq-eqb (length t) 0 e)
-
   pub short : 0 < length t → length t < 2 → next_of t ≡ Broken
   short p h = simp (ne_eqb (length t) 0 (λ e. omega arith), lt-leb 2 (length t) h)
 
@@ -54,7 +51,7 @@ pub whole_is : (s : List ℕ) {size : ℕ} → next_of s ≡ Whole size → 2 + 
 whole_is s e = let n = 2 + big_endian s 0 2 in (is_whole (eqb (length s) 0) (leb 2 (length s)) (leb n (length s)) n e).2
 
 -- ---- the loop of a run
-pub after_after : (k n m l : ℕ) (a b : List ℕ) (o : Outcome) → after k n a (after m l b o) ≡ after (k + m) (n + l) (a ++ b) o
+after_after : (k n m l : ℕ) (a b : List ℕ) (o : Outcome) → after k n a (after m l b o) ≡ after (k + m) (n + l) (a ++ b) o
 after_after k n m l a b o = simp (add_assoc, append_assoc, length-append)
 
 module _ (room : ℕ) (answer : List ℕ → List ℕ) where

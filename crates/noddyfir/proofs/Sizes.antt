@@ -60,7 +60,7 @@ pub answers_sized : (kind : Kind) (s : List ℕ) → length (answer_to kind s) �
 unfolding answer_of tested
 answers_sized kind s = (sized_tested (first_failing (order kind s)) (sized_result kind (case_of s))).bytes
 
-pub size_fits : (room code : ℕ) → 4 ≤ room → size_of room code ≤ room
+size_fits : (room code : ℕ) → 4 ≤ room → size_of room code ≤ room
 size_fits room code h = go (eqb code 0)
   where
     go : (f : Bool) → cond f room 4 ≤ room

@@ -25,13 +25,24 @@ pub enum Stop {
     BrokenTail = 2,
 }
 
+// The number that a run has for its reason.
+impl From<Stop> for u8 {
+    ghost use Rattle.noddyfir.specs.Run.{reason_of};
+
+    ghost from_gives = { λ stop byte. byte ≡ reason_of stop };
+
+    fn from(stop: Stop) -> u8 {
+        stop as u8
+    }
+}
+
 impl Run {
     // The same run, stopped.
     fn stopped(self, stop: Stop) -> Run
         ensures { result ≡ record self { reason = reason_of stop } }
     {
         Run {
-            reason: stop as u8,
+            reason: stop.into(),
             ..self
         }
     }

@@ -39,7 +39,7 @@ fn answer_all(output: &mut impl Write, kind: Kind, input: &[u8]) -> io::Result<(
     let mut at = 0;
     loop {
         let run = answer_from(output, kind, input, at)?;
-        if run.reason != Stop::NoRoom as u8 {
+        if run.reason != u8::from(Stop::NoRoom) {
             return Ok(());
         }
         at += run.read;

@@ -1,5 +1,5 @@
 // uvtheory/eos/mod.rs: which perturbation.
-#[derive(Clone, Copy)]
+#[derive(Clone, Copy, Debug, PartialEq, Eq)]
 pub enum Perturbation {
     BarkerHenderson,
     WeeksChandlerAndersen,

@@ -8,7 +8,7 @@ use Rattle.calls.proofs.kinds.energies_of.Goals as goal
 
 pub returns-in_err-require : goal.returns-in_err-require
 returns-in_err-require c =
-    let k = c.args.c.case in
+    let k = c.args.c.now in
     let e = c.contributions-e.ensures ∙ ap (contributions guarded k.perturbation k.mixture) c.sent.ensures in
     let refused : c.from_residual.result ≡ Err c.in_err-require.field-0.0 = search rules in
     refused
@@ -16,7 +16,7 @@ returns-in_err-require c =
 
 pub returns : goal.returns
 returns c =
-    let k = c.args.c.case in
+    let k = c.args.c.now in
     let e = c.contributions-e.ensures ∙ ap (contributions guarded k.perturbation k.mixture) c.sent.ensures in
     rw (c.from-x.ensures, c.from-y.ensures, c.from-z.ensures)
     (rw (← c.require.ensures, c.in_ok-require.was) at (energies_worked k e {b = c.are_finite.result} (rw (c.are_finite.ensures, c.from-x.ensures, c.from-y.ensures, c.from-z.ensures))))

@@ -1,7 +1,0 @@
--- The loop's invariant: the first i places are filled.
-use Rattle.std.proofs.Common.{◌≡◌, ◌++◌, length, drop}
-use Rattle.case_record.specs.Record.{column, values}
-use Rattle.case_record.proofs.case.read_column.Given as goal
-
-abbrev pub invariant-loop-i : goal.invariant-loop-i
-invariant-loop-i l = (l.out ≡ values l.i (column l.record l.first l.step) ++ drop l.i l.initial.out) × (length l.out ≡ length l.initial.out)
