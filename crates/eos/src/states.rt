@@ -37,17 +37,17 @@ fn start(density: f64, fraction: f64) -> Dual
 pub fn started(s: &State<f64>) -> State<Dual>
     ensures { state_of guarded_slopes result ≡ Slopes.started plain s.now }
 {
-    let d = s.partial_density;
-    let x = s.molefracs;
+    let d = &s.partial_density;
+    let x = &s.molefracs;
     State {
         temperature: Dual::from(s.temperature),
         partial_density: each(
             Components::new(8),
             |i: usize| -> Dual
                 requires { i < 8 }
-                ensures { result ≡ start plain (doubles d i) (doubles x i) }
+                ensures { result ≡ start plain (doubles d.entry.now i) (doubles x.entry.now i) }
             { start(d[i], x[i]) },
         ),
-        molefracs: constants(&x),
+        molefracs: constants(x),
     }
 }
