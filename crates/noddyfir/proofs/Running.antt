@@ -8,7 +8,7 @@ use mathlib.Core.List.{List, [], ◌∷◌, ◌++◌, append_assoc, append-nil}
 use lib.ListN.{length, take, drop, length-append, length-drop, take-append-drop, drop_of_length-le}
 use lib.Seq.{get_or-drop, length-take-le, take_at, drop_at, drop-drop, take_all}
 use lib.Dec.{leb, eqb, ltb}
-use borrow.Author.Tests.{le-leb, lt-leb, eq-eqb, ne_eqb, lt-ltb, le-ltb, leb-true}
+use borrow.Author.Tests.{le-leb, lt-leb, ne_eqb, lt-ltb, le-ltb, leb-true}
 use Rattle.big_endian.specs.Bytes.{big_endian, written}
 use Rattle.noddyfir.specs.Call.{call_buffer, call_code}
 use Rattle.noddyfir.specs.declared.run.Run.{Run}
