@@ -5,8 +5,7 @@ ghost use Rattle.calls.specs.Answers.{answer_of, beyond, result_of, staged, test
 ghost use Rattle.calls.specs.declared.kinds.Kind.TheVariants as Kinds;
 
 use answer::Answer;
-use case_record::case::{Case, WholeRecord};
-use case_record::layout::header_of;
+use case_record::case::{Case, case_of};
 use checks::{envelope, require, state, substances};
 use eos::contributions::contributions;
 use eos::states::{sent, started};
@@ -81,11 +80,7 @@ fn worked(kind: Kind, record: &[u8]) -> Result<Answer, Refusal>
     ensures { result ≡ staged kind «record».now }
 {
     envelope(record)?;
-    let whole = WholeRecord {
-        bytes: record,
-        header: header_of(record),
-    };
-    let c = whole.case();
+    let c = case_of(record);
     substances(&c)?;
     state(&c)?;
     match kind {

@@ -3,7 +3,7 @@ ghost use Rattle.std.specs.Prelude.{◌≡◌, ℕ, ◌+◌, ◌*◌, ◌≤◌,
 ghost use Rattle.case_record.specs.Layout.{header_of};
 ghost use Rattle.case_record.specs.Record.{Whole, case_of, column, double, mixture_of, row, state_of, values};
 
-use crate::layout::{Header, layout_of, pairs, perturbation_of};
+use crate::layout::{Header, header_of, layout_of, pairs, perturbation_of};
 use big_endian::double_at;
 use uvtheory::components::Components;
 use uvtheory::eos::Perturbation;
@@ -17,7 +17,7 @@ pub struct Case {
     pub state: State<f64>,
 }
 
-// A record that has all the bytes of a header: of its own, where the checks 2, 5 and 6 pass.
+// A record that has all the bytes of a header.
 #[derive(Clone, Copy, Debug, PartialEq, Eq)]
 pub struct WholeRecord<'a> {
     pub bytes: &'a [u8],
@@ -84,15 +84,20 @@ impl<'a> WholeRecord<'a> {
             molefracs: self.row(l.molefracs, 1, h.n),
         }
     }
+}
 
-    // By the record's own header, its case.
-    pub fn case(&self) -> Case
-        ensures { self.now.header ≡ header_of self.now.bytes.now → result ≡ case_of self.now.bytes.now }
-    {
-        Case {
-            perturbation: perturbation_of(self.header.perturbation),
-            mixture: self.mixture(),
-            state: self.state(),
-        }
+// The case of a record that the checks 2, 5 and 6 pass.
+pub fn case_of(record: &[u8]) -> Case
+    requires { Whole «record».now (header_of «record».now) }
+    ensures { result ≡ case_of «record».now }
+{
+    let whole = WholeRecord {
+        bytes: record,
+        header: header_of(record),
+    };
+    Case {
+        perturbation: perturbation_of(whole.header.perturbation),
+        mixture: whole.mixture(),
+        state: whole.state(),
     }
 }
