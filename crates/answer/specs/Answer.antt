@@ -30,10 +30,13 @@ doubles_of (Refused refusal) = []
 abbrev pub answer_bytes : Answer → List ℕ
 answer_bytes a = answer_with (code_of a) (doubles_of a)
 
--- "A refusal is four bytes: 00 02 01 and the code."
-pub refusal_bytes : (refusal : Refusal) → answer_bytes (Refused refusal) ≡ 0x00 ∷ 0x02 ∷ 0x01 ∷ code refusal ∷ []
+-- "A refusal is four bytes: 00 02 01 and the code.": of any number, and so of a refusal's
+pub code_bytes : (k : ℕ) → answer_with k [] ≡ 0x00 ∷ 0x02 ∷ 0x01 ∷ k ∷ []
 unfolding bytes_of
-refusal_bytes refusal = refl
+code_bytes k = refl
+
+pub refusal_bytes : (refusal : Refusal) → answer_bytes (Refused refusal) ≡ 0x00 ∷ 0x02 ∷ 0x01 ∷ code refusal ∷ []
+refusal_bytes refusal = code_bytes (code refusal)
 
 pub energies_bytes : (x y z : Float) → length (answer_bytes (Energies x y z)) ≡ 28
 unfolding bytes_of double_bytes

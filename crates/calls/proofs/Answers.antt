@@ -26,7 +26,7 @@ use Rattle.answer.specs.declared.Answer.{Answer}
 use Rattle.answer.specs.declared.Answer.TheVariants.{Energies, Ends, Slopes}
 use Rattle.calls.specs.declared.kinds.Kind.{Kind}
 use Rattle.calls.specs.declared.kinds.Kind.TheVariants.{Energies as ForEnergies, Ends as ForEnds, Slopes as ForSlopes}
-use Rattle.std.specs.Prelude.{Ok}
+use Rattle.std.specs.Prelude.{Ok, Err}
 use Rattle.std.specs.Result.{result_and}
 use Rattle.refusal.specs.declared.Refusal.TheVariants as Due
 use Rattle.calls.specs.Answers.{all, arithmetic, beyond, ends_of, energies_of, order, result_of, slopes_of, staged, tested, worked_of}
@@ -149,6 +149,14 @@ module _ {h g d : Dual} (held : h ≡ g) (agrees : Same g d) where
   dual_value_tested : finite h.value ≡ finite d.value
   dual_value_tested = ap (λ (x : Dual). finite x.value) held ∙ finite_checked g.value ∙ ap (λ (x : Dual). finite x.value) agrees.is
 
+-- where both halves are finite, so is the value
+ok_value : (h : Dual) → T (Dual.ok h) → finite h.value ≡ true
+ok_value h k = go (finite h.value) (finite h.slope) k
+  where
+    go : (p q : Bool) → T (p && q) → p ≡ true
+    go true q k = refl
+    go false q k = absurd k
+
 module _ (c : Case) {e : Contributions Dual} (e_is : e ≡ contributions guarded_slopes c.perturbation c.mixture (started plain c.state)) where
   are_sloped : Each e (contributions guarded_slopes c.perturbation c.mixture (started plain c.state))
   are_sloped = each e_is
@@ -191,3 +199,16 @@ module _ (c : Case) {e : Contributions Dual} (e_is : e ≡ contributions guarded
                 dual_is are_sloped.reference_is a.reference_is t.1,
                 dual_is are_sloped.attractive_is a.attractive_is t.2,
               )
+
+      -- one by one
+      pub slope_fails : b ≡ false → v ≡ true → Err Due.Slopes ≡ worked_of ForSlopes c
+      slope_fails h k = rw (k, h) at slopes_worked
+
+      pub value_fails : v ≡ false → Err Due.Arithmetic ≡ worked_of ForSlopes c
+      value_fails k = rw k at slopes_worked
+
+    pub all_sloped : b ≡ true → Ok (Slopes e.hard_sphere e.reference e.attractive) ≡ worked_of ForSlopes c
+    all_sloped h =
+        let t = each_true (Dual.ok e.hard_sphere) (Dual.ok e.reference) (Dual.ok e.attractive) (sym b_is ∙ h) in
+        let values = each_same (ok_value e.hard_sphere t.0) (ok_value e.reference t.1) (ok_value e.attractive t.2) in
+        rw h at (slopes_worked {v = true} (sym values))

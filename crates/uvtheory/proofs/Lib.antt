@@ -6,3 +6,5 @@ pub mod Loops
 pub mod Kept
 pub mod Sizes
 pub mod Pairs
+pub mod Bounds
+pub mod Eight

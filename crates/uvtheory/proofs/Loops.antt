@@ -16,6 +16,11 @@ module _ {Value : Type 0} (A : Arithmetic Value) where
   adds start step zero f = start f
   adds start step (suc n) f = subst (λ (k : ℕ). A.sum k f ≡ A.add (sum_by (A.constant zero_d) A.add n f) (f n)) (add-one n) (step n f ∙ ap (λ (v : Value). A.add v (f n)) (adds start step n f))
 
+  -- what one turn of a loop adds
+  pub sum_step : Adds A → (f : ℕ → Value) (i : ℕ) → A.sum (i + 1) f ≡ A.add (A.sum i f) (f i)
+  unfolding sum_by
+  sum_step left f i = rw (left (i + 1) f, add-one i, left i f)
+
   pub sum_ext : Adds A → (n : ℕ) (f g : ℕ → Value) → ((i : ℕ) → i < n → f i ≡ g i) → A.sum n f ≡ A.sum n g
   unfolding sum_by
   sum_ext left n f g h = left n f ∙ go n h ∙ sym (left n g)
@@ -25,7 +30,7 @@ module _ {Value : Type 0} (A : Arithmetic Value) where
       go (suc n) h = ap₂ A.add (go n (λ i l. h i (omega arith))) (h n (le_refl (suc n)))
 
 -- ---- the row and the column of the k-th of n × n
-some_rows : (n k : ℕ) → k < n * n → 0 < n
+pub some_rows : (n k : ℕ) → k < n * n → 0 < n
 some_rows zero k h = absurd (omega (arith, h))
 some_rows (suc n) k h = omega arith
 

@@ -25,7 +25,7 @@ module _ {Value : Type 0} (A : Arithmetic Value) (adds : Adds A) where
 
   -- by units and diameters, of which the first n count
   module _ (n : ℕ) (u v : ℕ → Value) (units : (i : ℕ) → i < n → u i ≡ v i) (f g : ℕ → Value) (diameters : (i : ℕ) → i < n → f i ≡ g i) where
-    weighted_zeta_of : (w : ℕ → Value) (k : ℕ) → S.weighted_zeta A n u f w k ≡ S.weighted_zeta A n v g w k
+    pub weighted_zeta_of : (w : ℕ → Value) (k : ℕ) → S.weighted_zeta A n u f w k ≡ S.weighted_zeta A n v g w k
     unfolding S.weighted_zeta
     weighted_zeta_of w k = sum_ext A adds n _ _ (λ i l. rw (diameters i l, units i l))
 
@@ -52,12 +52,12 @@ module _ {Value : Type 0} (A : Arithmetic Value) (adds : Adds A) where
         → O.virial_sum A n x (matrix_of none n sigmas) e (matrix_of none n xs) ≡ O.virial_sum A n x sigma_ij e f
     virial_sum_of sigmas sigma_ij s e xs f h = weighted_pairs_of n x _ _ _ _ (powers sigmas sigma_ij s e) (matrix_at none n xs f h)
 
-    pub one_fluid_is : (reps atts sigmas epss : List Value) (rep_ij att_ij sigma_ij eps_k_ij : ℕ → ℕ → Value) (sigma d : ℕ → Value)
-        → MatrixOf none n reps rep_ij → MatrixOf none n atts att_ij → MatrixOf none n sigmas sigma_ij → MatrixOf none n epss eps_k_ij
-        → O.one_fluid_of A n (matrix_of none n reps) (matrix_of none n atts) (matrix_of none n sigmas) (matrix_of none n epss) sigma x d ≡ O.one_fluid_of A n rep_ij att_ij sigma_ij eps_k_ij sigma x d
-    one_fluid_is reps atts sigmas epss rep_ij att_ij sigma_ij eps_k_ij sigma d rep_are att_are sigma_are epsilon_are =
+    pub one_fluid_is : (reps atts sigmas epss ds : List Value) (rep_ij att_ij sigma_ij eps_k_ij : ℕ → ℕ → Value) (sigma d : ℕ → Value)
+        → MatrixOf none n reps rep_ij → MatrixOf none n atts att_ij → MatrixOf none n sigmas sigma_ij → MatrixOf none n epss eps_k_ij → RowOf none n ds d
+        → O.one_fluid_of A n (matrix_of none n reps) (matrix_of none n atts) (matrix_of none n sigmas) (matrix_of none n epss) sigma x (row_of none ds) ≡ O.one_fluid_of A n rep_ij att_ij sigma_ij eps_k_ij sigma x d
+    one_fluid_is reps atts sigmas epss ds rep_ij att_ij sigma_ij eps_k_ij sigma d rep_are att_are sigma_are epsilon_are d_are =
         let rep = pair_mean_of n x (matrix_of none n reps) rep_ij (matrix_at none n reps rep_ij rep_are) in
         let att = pair_mean_of n x (matrix_of none n atts) att_ij (matrix_at none n atts att_ij att_are) in
         let cubes = pair_mean_of n x (λ i j. A.powi (matrix_of none n sigmas i j) 3) (λ i j. A.powi (sigma_ij i j) 3) (powers sigmas sigma_ij sigma_are 3) in
         let eps = virial_sum_of sigmas sigma_ij sigma_are 3 epss eps_k_ij epsilon_are in
-        rw (rep, att, cubes, eps)
+        rw (rep, att, cubes, eps, mean_cube_of none n x ds d d_are)

@@ -15,7 +15,7 @@ use uvtheory::reference_energy::energy;
 
 // Of two components and their pair.
 #[tactic(auto, unfolding(uvtheory::specs::Bh::ReferencePerturbation::term_of, uvtheory::specs::Bh::ReferencePerturbation::term))]
-fn term<D: DualNum>(i: Component<D>, j: Component<D>, ij: Mie<D>, eta: D) -> D
+pub fn term<D: DualNum>(i: Component<D>, j: Component<D>, ij: Mie<D>, eta: D) -> D
     ensures { result ≡ F.term_of D.arithmetic i.x j.x i.d j.d i.sigma j.sigma ij.sigma ij.rep eta }
 {
     let t = tau(i.d, i.sigma, j.d, j.sigma);

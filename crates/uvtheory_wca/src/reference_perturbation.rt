@@ -17,7 +17,7 @@ use uvtheory::reference_energy::energy;
 
 // Of a pair of components.
 #[tactic(auto, unfolding(uvtheory::specs::Wca::ReferencePerturbation::term))]
-fn term<D: DualNum>(xi: D, xj: D, eta_a: D, eta_b: D, rs_ij: D, d_ij: D, q_ij: D, sigma_ij: D) -> D
+pub fn term<D: DualNum>(xi: D, xj: D, eta_a: D, eta_b: D, rs_ij: D, d_ij: D, q_ij: D, sigma_ij: D) -> D
     ensures { result ≡ F.term D.arithmetic xi xj eta_a eta_b rs_ij d_ij q_ij sigma_ij }
 {
     let one = D::from(1.0);
@@ -29,7 +29,7 @@ fn term<D: DualNum>(xi: D, xj: D, eta_a: D, eta_b: D, rs_ij: D, d_ij: D, q_ij: D
 }
 
 #[tactic(auto, unfolding(uvtheory::specs::Wca::ReferencePerturbation::term_of))]
-fn term_of<D: DualNum>(
+pub fn term_of<D: DualNum>(
     c: &PackingConstants,
     i: Component<D>,
     j: Component<D>,

@@ -1,3 +1,4 @@
+use Rattle.std.proofs.Common.{refl}
 use Rattle.uvtheory.specs.Rows.{missing, row}
 use Rattle.uvtheory.specs.Inputs.{parameters}
 use Rattle.uvtheory.proofs.Loops.{adds}
@@ -14,7 +15,7 @@ returns g c =
     let f = parameters A p.mixture in
     let d = row A c.args.d.now in
     let fluid =
-    one_fluid_is A (adds A number.sum_start number.sum_step) (missing A) f.n (row A c.args.x.now) p.rep_ij p.att_ij p.sigma_ij p.eps_k_ij f.rep_ij f.att_ij f.sigma_ij f.eps_k_ij f.sigma d m.rep_are m.att_are m.sigma_are m.epsilon_are in
+    one_fluid_is A (adds A number.sum_start number.sum_step) (missing A) f.n (row A c.args.x.now) p.rep_ij p.att_ij p.sigma_ij p.eps_k_ij c.args.d.now f.rep_ij f.att_ij f.sigma_ij f.eps_k_ij f.sigma d m.rep_are m.att_are m.sigma_are m.epsilon_are (λ i _. refl) in
     rw (← c.p.view_is) (simp (
       number.div_is _ _ _ c.div.ensures,
       number.div_is _ _ _ c.div-2.ensures,
