@@ -35,6 +35,15 @@ impl Components {
         self.n
     }
 
+    // The place of i in a row.
+    pub fn in_row(self, i: usize) -> usize
+        requires { i < self }
+        ensures { (result ≡ i) × (result < 8) }
+    {
+        let _ = self.n;
+        i
+    }
+
     // The place of (i, j) in a matrix.
     #[tactic(auto, using(crate::proofs::Pairs::fits))]
     pub fn row_by_row(self, i: usize, j: usize) -> usize

@@ -218,14 +218,15 @@ impl<D: DualNum> UVTheoryPars<D> {
     // Of the i-th substance.
     #[inline(always)]
     pub fn pure(&self, i: usize) -> Mie<D>
-        requires { i < 8 }
+        requires { i < self.now.n }
         ensures { result ≡ record { rep = (parameters D.arithmetic self.now).rep i; att = (parameters D.arithmetic self.now).att i; sigma = (parameters D.arithmetic self.now).sigma i; epsilon_k = (parameters D.arithmetic self.now).epsilon_k i } }
     {
+        let k = self.mixture.n.in_row(i);
         Mie {
-            rep: self.rep[i],
-            att: self.att[i],
-            sigma: self.sigma[i],
-            epsilon_k: self.epsilon_k[i],
+            rep: self.rep[k],
+            att: self.att[k],
+            sigma: self.sigma[k],
+            epsilon_k: self.epsilon_k[k],
         }
     }
 

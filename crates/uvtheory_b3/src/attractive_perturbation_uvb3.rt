@@ -262,7 +262,7 @@ fn delta_b2_ij<D: DualNum>(w: &WeeksChandlerAndersen<D>) -> [D; 64]
 
 // The diameter of a component over its sigma.
 fn reduced_diameter<D: DualNum>(w: &WeeksChandlerAndersen<D>, i: usize) -> D
-    requires { (i < w.now.mixture.n) × (i < 8) }
+    requires { i < w.now.mixture.n }
     ensures { result ≡ D.arithmetic.div (diameter_wca D.arithmetic (parameters D.arithmetic w.now.mixture) w.now.state.temperature i) ((parameters D.arithmetic w.now.mixture).sigma i) }
 {
     w.component(i).d / w.parameters.pure(i).sigma
@@ -277,7 +277,7 @@ fn delta_b3_ij<D: DualNum>(w: &WeeksChandlerAndersen<D>) -> [D; 64]
     matrix(
         p.mixture.n,
         |i: usize, j: usize| -> D
-            requires { (i < w.now.mixture.n) × (j < w.now.mixture.n) × (w.now.mixture.n ≤ 8) × (t ≡ w.now.state.temperature) }
+            requires { (i < w.now.mixture.n) × (j < w.now.mixture.n) × (t ≡ w.now.state.temperature) }
             ensures { result ≡ F.delta_b3_ij D.arithmetic (parameters D.arithmetic w.entry.now.mixture) w.entry.now.state.temperature (diameter_wca D.arithmetic (parameters D.arithmetic w.entry.now.mixture) w.entry.now.state.temperature) i j }
         {
             let ij = w.pair(i, j);

@@ -53,15 +53,17 @@ impl<'a, D: DualNum> BarkerHenderson<'a, D> {
 
     #[tactic(auto, using(uvtheory::proofs::Sizes::parameters_fit))]
     pub fn component(&self, i: usize) -> Component<D>
-        requires { (i < self.now.mixture.n) × (i < 8) }
+        requires { i < self.now.mixture.n }
         ensures { result ≡ record { x = row D.arithmetic self.now.state.molefracs i; d = F.diameter_bh D.arithmetic (parameters D.arithmetic self.now.mixture) self.now.state.temperature i; sigma = (parameters D.arithmetic self.now.mixture).sigma i } }
     {
+        let p = self.parameters;
         let x = &self.state.molefracs;
         let d = &self.d;
+        let k = p.mixture.n.in_row(i);
         Component {
-            x: x[i],
-            d: d[i],
-            sigma: self.parameters.pure(i).sigma,
+            x: x[k],
+            d: d[k],
+            sigma: p.pure(i).sigma,
         }
     }
 }

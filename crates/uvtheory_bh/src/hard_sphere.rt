@@ -47,7 +47,7 @@ pub fn diameter_bh<D: DualNum>(p: &UVTheoryPars<D>, temperature: D) -> [D; 8]
     each(
         p.mixture.n,
         |i: usize| -> D
-            requires { (i < 8) × (a76 ≡ P.inv_a76 D.arithmetic (D.arithmetic.constant N.six)) }
+            requires { (i < p.now.n) × (a76 ≡ P.inv_a76 D.arithmetic (D.arithmetic.constant N.six)) }
             ensures { result ≡ F.diameter_bh D.arithmetic (parameters D.arithmetic p.entry.now) temperature i }
         {
             let c = p.pure(i);

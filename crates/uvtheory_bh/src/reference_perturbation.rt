@@ -32,7 +32,7 @@ pub fn term<D: DualNum>(i: Component<D>, j: Component<D>, ij: Mie<D>, eta: D) ->
 
 #[tactic(auto, using(uvtheory::proofs::Sizes::parameters_fit))]
 fn term_ij<D: DualNum>(b: &BarkerHenderson<D>, i: usize, j: usize, eta: D) -> D
-    requires { (i < b.now.mixture.n) × (j < b.now.mixture.n) × (b.now.mixture.n ≤ 8) }
+    requires { (i < b.now.mixture.n) × (j < b.now.mixture.n) }
     ensures { result ≡ F.term_ij D.arithmetic (row D.arithmetic b.now.state.molefracs) (diameter_bh D.arithmetic (parameters D.arithmetic b.now.mixture) b.now.state.temperature) (parameters D.arithmetic b.now.mixture).sigma
         (parameters D.arithmetic b.now.mixture).sigma_ij (parameters D.arithmetic b.now.mixture).rep_ij eta i j }
 {

@@ -123,7 +123,7 @@ pub fn minima<D: DualNum>(p: &UVTheoryPars<D>) -> [D; 8]
     each(
         p.mixture.n,
         |i: usize| -> D
-            requires { i < 8 }
+            requires { i < p.now.n }
             ensures { result ≡ F.rm_of D.arithmetic ((parameters D.arithmetic p.entry.now).rep i) ((parameters D.arithmetic p.entry.now).att i) }
         {
             let c = p.pure(i);
@@ -141,7 +141,7 @@ pub fn diameter_wca<D: DualNum>(p: &UVTheoryPars<D>, temperature: D, rm: &[D; 8]
     each(
         p.mixture.n,
         |i: usize| -> D
-            requires { i < 8 }
+            requires { (i < p.now.n) × (i < 8) }
             ensures { result ≡ F.diameter_of D.arithmetic (D.arithmetic.div temperature ((parameters D.arithmetic p.entry.now).epsilon_k i)) ((parameters D.arithmetic p.entry.now).rep i) (row D.arithmetic rm.entry.now i) ((parameters D.arithmetic p.entry.now).sigma i) }
         {
             let c = p.pure(i);
@@ -165,7 +165,7 @@ pub fn dimensionless_length_scale<D: DualNum>(
     each(
         p.mixture.n,
         |i: usize| -> D
-            requires { i < 8 }
+            requires { (i < p.now.n) × (i < 8) }
             ensures { result ≡ D.arithmetic.add (D.arithmetic.neg (row D.arithmetic d.entry.now i)) (D.arithmetic.mul (row D.arithmetic rm.entry.now i) ((parameters D.arithmetic p.entry.now).sigma i)) }
         { -d[i] + rm[i] * p.pure(i).sigma },
     )

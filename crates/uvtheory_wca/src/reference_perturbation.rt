@@ -17,7 +17,16 @@ use uvtheory::reference_energy::energy;
 
 // Of a pair of components.
 #[tactic(auto, unfolding(uvtheory::specs::Wca::ReferencePerturbation::term))]
-pub fn term<D: DualNum>(xi: D, xj: D, eta_a: D, eta_b: D, rs_ij: D, d_ij: D, q_ij: D, sigma_ij: D) -> D
+pub fn term<D: DualNum>(
+    xi: D,
+    xj: D,
+    eta_a: D,
+    eta_b: D,
+    rs_ij: D,
+    d_ij: D,
+    q_ij: D,
+    sigma_ij: D,
+) -> D
     ensures { result ≡ F.term D.arithmetic xi xj eta_a eta_b rs_ij d_ij q_ij sigma_ij }
 {
     let one = D::from(1.0);
@@ -60,7 +69,7 @@ fn term_ij<D: DualNum>(
     j: usize,
     eta: D,
 ) -> D
-    requires { (i < w.now.mixture.n) × (j < w.now.mixture.n) × (w.now.mixture.n ≤ 8) }
+    requires { (i < w.now.mixture.n) × (j < w.now.mixture.n) }
     ensures { result ≡ F.term_ij D.arithmetic (table c.now.eta_a) (table c.now.eta_b) (row D.arithmetic w.now.state.molefracs) (λ i. rm_of D.arithmetic ((parameters D.arithmetic w.now.mixture).rep i) ((parameters D.arithmetic w.now.mixture).att i))
         (diameter_wca D.arithmetic (parameters D.arithmetic w.now.mixture) w.now.state.temperature) (dimensionless_length_scale D.arithmetic (parameters D.arithmetic w.now.mixture) w.now.state.temperature)
         (λ i j. dimensionless_diameter_q_wca D.arithmetic (D.arithmetic.div w.now.state.temperature ((parameters D.arithmetic w.now.mixture).eps_k_ij i j)) ((parameters D.arithmetic w.now.mixture).rep_ij i j) ((parameters D.arithmetic w.now.mixture).att_ij i j))

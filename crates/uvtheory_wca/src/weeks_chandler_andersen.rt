@@ -81,7 +81,7 @@ impl<'a, D: DualNum> WeeksChandlerAndersen<'a, D> {
     }
 
     pub fn component(&self, i: usize) -> Component<D>
-        requires { (i < self.now.mixture.n) × (i < 8) }
+        requires { i < self.now.mixture.n }
         ensures { result ≡ record {
           x = row D.arithmetic self.now.state.molefracs i;
           rm = F.rm_of D.arithmetic ((parameters D.arithmetic self.now.mixture).rep i) ((parameters D.arithmetic self.now.mixture).att i);
@@ -89,15 +89,17 @@ impl<'a, D: DualNum> WeeksChandlerAndersen<'a, D> {
           length = F.dimensionless_length_scale D.arithmetic (parameters D.arithmetic self.now.mixture) self.now.state.temperature i;
         } }
     {
+        let p = self.parameters;
         let x = &self.state.molefracs;
         let rm = &self.rm;
         let d = &self.d;
         let length = &self.length;
+        let k = p.mixture.n.in_row(i);
         Component {
-            x: x[i],
-            rm: rm[i],
-            d: d[i],
-            length: length[i],
+            x: x[k],
+            rm: rm[k],
+            d: d[k],
+            length: length[k],
         }
     }
 

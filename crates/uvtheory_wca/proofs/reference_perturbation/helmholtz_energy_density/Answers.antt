@@ -16,7 +16,7 @@ term_ij-requires g c =
     let inside : c.loop-k.k < c.get-n.result * c.get-n.result = omega arith in
     let row = row_of c.get-n.result c.loop-k.k inside in
     let column = column_of c.get-n.result c.loop-k.k inside in
-    (lengths_fit _ _ g.met.D.DualNum.aligned g.met.D.DualNum.small, (omega (arith, n, row), omega (arith, n, column), omega (arith, n)))
+    (lengths_fit _ _ g.met.D.DualNum.aligned g.met.D.DualNum.small, (omega (arith, n, row), omega (arith, n, column)))
 
 pub add-a-requires : goal.add-a-requires
 add-a-requires g c = g.met.D.DualNum.add_total _ _

@@ -11,10 +11,10 @@ returns g c =
     let A = g.D.DualNum.arithmetic in
     let s = c.self.inside in
     let f = parameters A c.args.self.now in
-    let i = c.args.i in
+    let k = c.in_row-k.result in
     let held = subst (λ (m : Mixture). Rows A m s.rep s.att s.sigma s.epsilon_k) c.self.view_is c.self.invariant.0 in
-    let value : (xs : List _) (v : _) (h : ℕ → _) → row A xs ≡ h → length xs ≡ 8 → get_or xs i v ≡ h i =
-    λ xs v h is size. get_or_default xs i v (missing A) (omega (arith, size)) ∙ ap (λ (t : ℕ → _). t i) is in
+    let value : (xs : List _) (v : _) (h : ℕ → _) → row A xs ≡ h → length xs ≡ 8 → get_or xs k v ≡ h c.args.i =
+    λ xs v h is size. get_or_default xs k v (missing A) (omega (arith, size)) ∙ ap (λ (t : ℕ → _). t k) is ∙ ap h c.in_row-k.ensures.0 in
     let size : length s.rep ≡ 8 = search rules in
     let size-2 : length s.att ≡ 8 = search rules in
     let size-3 : length s.sigma ≡ 8 = search rules in

@@ -16,5 +16,5 @@ returns g c =
       c.reduced_diameter.ensures,
       c.reduced_diameter-2.ensures,
       c.pair-ij.ensures,
-      c.requires.3,
+      c.requires.2,
     )
