@@ -29,6 +29,7 @@ impl Components {
         Components { n }
     }
 
+    #[inline(always)]
     pub fn get(self) -> usize
         ensures { (result ≡ self) × (result ≤ 8) }
     {
@@ -36,6 +37,7 @@ impl Components {
     }
 
     // The place of i in a row.
+    #[inline(always)]
     pub fn in_row(self, i: usize) -> usize
         requires { i < self }
         ensures { (result ≡ i) × (result < 8) }
@@ -45,6 +47,7 @@ impl Components {
     }
 
     // The place of (i, j) in a matrix.
+    #[inline(always)]
     #[tactic(auto, using(crate::proofs::Pairs::fits))]
     pub fn row_by_row(self, i: usize, j: usize) -> usize
         requires { (i < self) × (j < self) }

@@ -51,6 +51,7 @@ impl<'a, D: DualNum> BarkerHenderson<'a, D> {
         }
     }
 
+    #[inline(always)]
     #[tactic(auto, using(uvtheory::proofs::Sizes::parameters_fit))]
     pub fn component(&self, i: usize) -> Component<D>
         requires { i < self.now.mixture.n }

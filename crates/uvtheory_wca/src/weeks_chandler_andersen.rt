@@ -80,6 +80,7 @@ impl<'a, D: DualNum> WeeksChandlerAndersen<'a, D> {
         }
     }
 
+    #[inline(always)]
     pub fn component(&self, i: usize) -> Component<D>
         requires { i < self.now.mixture.n }
         ensures { result ≡ record {
@@ -103,6 +104,7 @@ impl<'a, D: DualNum> WeeksChandlerAndersen<'a, D> {
         }
     }
 
+    #[inline(always)]
     #[tactic(auto, using(uvtheory::proofs::Sizes::parameters_fit))]
     pub fn pair(&self, i: usize, j: usize) -> Pair<D>
         requires { (i < self.now.mixture.n) × (j < self.now.mixture.n) }
