@@ -6,5 +6,6 @@ pub mod Loops
 pub mod Kept
 pub mod Sizes
 pub mod Pairs
+pub mod Mie
 pub mod Bounds
 pub mod Eight

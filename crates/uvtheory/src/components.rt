@@ -42,6 +42,7 @@ impl Components {
         requires { i < self }
         ensures { (result ≡ i) × (result < 8) }
     {
+        // Reading n opens the value: the proof sees that n is at most 8.
         let _ = self.n;
         i
     }

@@ -33,8 +33,8 @@ pub fn sum<D: DualNum>(n: Components, x: &[D; 8]) -> D
     ensures { result ≡ D.arithmetic.sum n (row D.arithmetic x.now) }
 {
     let mut sum = D::from(0.0);
-    for i in 0..n.get() {
-        sum = sum + x[i];
+    for value in x[..n.get()].iter() {
+        sum = sum + *value;
     }
     sum
 }

@@ -1,16 +1,9 @@
 use Prim.Native.Nat.{◌≤◌}
-use mathlib.Core.Path.{◌≡◌, refl}
+use mathlib.Core.Path.{◌≡◌}
 use native.Mathlib.Omega.{arith}
 use lib.ListN.{length}
-use Rattle.big_endian.proofs.Written.{none_yet}
 use Rattle.answer.proofs.Writing.{double_more, whole_answer}
 use Rattle.answer.proofs.put_answer.Goals as goal
-
-pub loop-k-init : goal.loop-k-init
-loop-k-init c =
-    let l = c.put_header.new.answer in
-    let h : 4 ≤ length l = omega arith in
-    (omega arith, none_yet l 4 h, refl)
 
 pub loop-k-preserved : goal.loop-k-preserved
 loop-k-preserved c =

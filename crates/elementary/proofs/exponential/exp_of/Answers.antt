@@ -8,9 +8,6 @@ use Rattle.elementary.proofs.exponential.exp_of.Goals as goal
 pub int_to_float-w : goal.int_to_float-w
 int_to_float-w c = subst (λ (z : ℤ). T (in_float binary64 z)) (sym (to_z-of_z w64 c.args.k c.ranges.k)) (normal_float c.args.k c.requires)
 
-pub power_of_two-requires : goal.power_of_two-requires
-power_of_two-requires c = rw (to_z-of_z w64 c.args.k c.ranges.k) c.requires
-
 pub returns : goal.returns
 unfolding R.exp_of
 returns c = rw (c.power_of_two.ensures, c.polynomial.ensures, to_z-of_z w64 c.args.k c.ranges.k)

@@ -14,7 +14,6 @@ use Rattle.arithmetic.specs.Recipes as R
 use Rattle.arithmetic.specs.Doubles.{plain, scaled}
 use Rattle.arithmetic.proofs.Fraction.{≼_trans, ≼-≺-trans}
 use Rattle.arithmetic.proofs.Value.{lt→≺}
-use Rattle.arithmetic.proofs.Next.{finite_not_nan}
 use Rattle.arithmetic.proofs.Zero.{positive_pattern}
 use Rattle.arithmetic.proofs.Cases.{exponent_none}
 use Rattle.arithmetic.proofs.Tests.{not_below, zero_by_zero, is_so}
@@ -41,9 +40,6 @@ ln_not_finite v h = rw h
 above_zero : (v : Float) → T (finite v) → lt zero_d v ≡ true → null ≺ value v
 unfolding of_bits
 above_zero v p h = ≼-≺-trans (omega arith) (lt→≺ zero_d v tt p (subst T (sym h) tt))
-
-pub float_to_bits-v : goal.float_to_bits-v
-float_to_bits-v c = finite_not_nan c.args.v (is_so _ c.args.v c.is_finite.ensures c.if-is_finite.true)
 
 pub split-p-requires : goal.split-p-requires
 split-p-requires c =

@@ -33,12 +33,6 @@ float_from_bits-result c = not_nan_bits _ (let e = c.parts-p.ensures.bound in om
 pub float_from_bits-result-else-p-lt6755399441055744 : goal.float_from_bits-result-else-p-lt6755399441055744
 float_from_bits-result-else-p-lt6755399441055744 c = not_nan_bits _ (let e = c.parts-p.ensures.bound in omega arith)
 
-pub overflow_sub-result : goal.overflow_sub-result
-overflow_sub-result c = let p = c.parts-p in fits p.result.exp 1073 p.ensures.bound.2 (omega arith)
-
-pub overflow_sub-result-else-p-lt6755399441055744 : goal.overflow_sub-result-else-p-lt6755399441055744
-overflow_sub-result-else-p-lt6755399441055744 c = let p = c.parts-p in fits p.result.exp 1072 p.ensures.bound.2 (omega arith)
-
 -- what is left to show of an m and an e
 Split : (b : ℕ) (m : Float) (e : ℤ) → Type 0
 Split b m e = (exponent_of (value (of_bits binary64 b)) ≡ some e) × (scaled (of_bits binary64 b) (neg_ℤ e) ≡ m) × T (in_float binary64 e)

@@ -1,28 +1,15 @@
 -- The two cases of a pattern, as proofs/Significand.antt of crate arithmetic has them.
 use mathlib.Core.Path.{◌≡◌}
-use Prim.Native.Nat.{◌-◌, ◌/◌, ◌^◌, ◌≤◌, ◌<◌}
+use Prim.Native.Nat.{◌/◌, ◌^◌, ◌<◌}
 use native.Mathlib.Omega.{arith}
-use lib.Count.{count_leading_zeros}
 use Rattle.arithmetic.proofs.Significand.{shift_room, subnormal, normal}
 use Rattle.operations.proofs.parts.parts.Goals as goal
 
 low : (c : goal.Then-field-eq0) → c.args.b < 2 ^ 52
 low c = omega arith
 
-room : (c : goal.Then-field-eq0) → (11 ≤ count_leading_zeros 64 c.args.b) × (count_leading_zeros 64 c.args.b - 11 ≤ 52)
-room c = shift_room c.args.b c.requires.0 (low c)
-
 pub overflow_sub-shift : goal.overflow_sub-shift
-overflow_sub-shift c = (room c).0
-
-pub overflow_cast-shift : goal.overflow_cast-shift
-overflow_cast-shift c = omega (arith, room c)
-
-pub overflow_shl-result : goal.overflow_shl-result
-overflow_shl-result c = omega (arith, room c)
-
-pub overflow_sub-result : goal.overflow_sub-result
-overflow_sub-result c = (room c).1
+overflow_sub-shift c = (shift_room c.args.b c.requires.0 (low c)).0
 
 pub returns-then-field-eq0 : goal.returns-then-field-eq0
 returns-then-field-eq0 c = let p = subnormal c.args.b c.requires.0 (low c) in record { bound = p.0; has_value = p.1 }

@@ -15,7 +15,7 @@ use borrow.Author.Tests.{ltb-false}
 use Rattle.std.proofs.lemmas.Float.{T_from_true}
 use Rattle.arithmetic.specs.Root.{sqrt}
 use Rattle.arithmetic.specs.Rounds.{rounds}
-use Rattle.arithmetic.proofs.Next.{finite_not_nan, real_plus}
+use Rattle.arithmetic.proofs.Next.{real_plus}
 use Rattle.arithmetic.proofs.Tests.{zero_by_zero, is_so}
 use Rattle.arithmetic.proofs.Zero.{is_zero_is, not_zero, above_zero, positive_pattern}
 use Rattle.operations.proofs.root.counted_sqrt.Goals as goal
@@ -53,9 +53,6 @@ none_below (fin false m e) n l =
 -- ---- the needs
 pub returns-then-v : goal.returns-then-v
 returns-then-v c = root_of_zero c.args.v (T_from_true _ c.well_formed.0.1) c.if-v.true
-
-pub float_to_bits-v : goal.float_to_bits-v
-float_to_bits-v c = finite_not_nan c.args.v (is_so _ c.args.v c.is_finite.ensures c.if-is_finite.true)
 
 pub root_bits-r-requires : goal.root_bits-r-requires
 root_bits-r-requires c =

@@ -21,9 +21,6 @@ loop-s-preserved c =
       onward _ _ _ _ _ l.invariant.0 pre.0 pre.1 g.0 g.1 l.invariant.1,
     )
 
-pub overflow_sub-result : goal.overflow_sub-result
-overflow_sub-result c = c.loop-s.invariant.0.few
-
 pub returns : goal.returns
 returns c =
     let l = c.loop-s in

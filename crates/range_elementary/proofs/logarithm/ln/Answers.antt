@@ -99,11 +99,6 @@ module _ (v : Range) (has : ok v ≡ true) (m n : Float) (e j : ℤ) (fl : T (fi
   scaled_ends =
       scale_exact v has (neg_ℤ e) m n fl fu lower_above upper_above lower_is.1 upper_is.1 (lower_is.3, lower_is.4) (upper_is.3, upper_is.4)
 
-pub ln_of-requires : goal.ln_of-requires
-ln_of-requires c =
-    let i = (split_of c.args.v.lower c.split-a.result.m c.split-a.result.e (search rules) c.split-a.ensures).2 in
-    rw (back c.split-a.result.e i) i
-
 pub returns : goal.returns
 unfolding R.ln
 returns c =

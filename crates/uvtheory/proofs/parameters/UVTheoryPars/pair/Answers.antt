@@ -3,6 +3,7 @@ use Rattle.uvtheory.specs.declared.parameters.Mixture.{Mixture}
 use Rattle.uvtheory.specs.Rows.{missing, Matrix}
 use Rattle.uvtheory.specs.Inputs.{parameters}
 use Rattle.uvtheory.specs.Held.{Matrices}
+use Rattle.uvtheory.proofs.Mie.{alike}
 use Rattle.uvtheory.proofs.Pairs.{at_place}
 use Rattle.uvtheory.proofs.parameters.UVTheoryPars.pair.Goals as goal
 
@@ -17,8 +18,8 @@ returns g c =
     let held = subst (λ (m : Mixture). Matrices A m s.rep_ij s.att_ij s.sigma_ij s.eps_k_ij) c.self.view_is c.self.invariant.1 in
     let value : (xs : List _) (v : _) (h : ℕ → ℕ → _) → Matrix A n xs h → length xs ≡ 64 → get_or xs k v ≡ h c.args.i c.args.j =
     λ xs v h is size. at_place (missing A) v n c.args.i c.args.j k xs h is c.requires.0 c.requires.1 place (omega (arith, size)) in
-    let size : length s.rep_ij ≡ 64 = search rules in
-    let size-2 : length s.att_ij ≡ 64 = search rules in
-    let size-3 : length s.sigma_ij ≡ 64 = search rules in
-    let size-4 : length s.eps_k_ij ≡ 64 = search rules in
-    rw (value s.rep_ij _ f.rep_ij held.rep_are size, value s.att_ij _ f.att_ij held.att_are size-2, value s.sigma_ij _ f.sigma_ij held.sigma_are size-3, value s.eps_k_ij _ f.eps_k_ij held.epsilon_are size-4)
+    alike
+    (value s.rep_ij _ f.rep_ij held.rep_are (search rules))
+    (value s.att_ij _ f.att_ij held.att_are (search rules))
+    (value s.sigma_ij _ f.sigma_ij held.sigma_are (search rules))
+    (value s.eps_k_ij _ f.eps_k_ij held.epsilon_are (search rules))
