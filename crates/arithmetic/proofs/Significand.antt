@@ -70,8 +70,8 @@ shift b p h =
     let k : t.0 < 52 = lt_of_not-le (λ (g : 52 ≤ t.0). not-le_of_lt (lt_of_lt_of_le h (pow_mono g)) t.2) in
     (t.0, omega (arith, t.1), omega (arith, t.1), t.2, t.3)
 
-pub shift_room : (b : ℕ) → 0 < b → b < 2 ^ 52 → (11 ≤ count_leading_zeros 64 b) × (count_leading_zeros 64 b - 11 ≤ 52)
-shift_room b p h = let t = shift b p h in (t.1, omega (arith, t.2))
+pub shift_room : (b : ℕ) → 0 < b → b < 2 ^ 52 → 11 ≤ count_leading_zeros 64 b
+shift_room b p h = (shift b p h).1
 
 pub subnormal : (b : ℕ) → 0 < b → b < 2 ^ 52 → Parts b (b * 2 ^ (count_leading_zeros 64 b - 11) % 2 ^ 64) (52 - (count_leading_zeros 64 b - 11))
 subnormal b p h =

@@ -52,20 +52,3 @@ module _ (l : List ℕ) (n : ℕ) (h : n ≤ length l) where
   double_more xs x {l₁} e₁ e₂ =
       let grown : begun l n (xs ++ x ∷ []) ≡ begun l n xs ++ double_bytes x = rw (doubles_snoc, append_assoc) refl in
       e₂ ∙ rw (e₁, grown) (extend (begun l n xs) (double_bytes x) l (length_begun xs) (length_double x))
-
--- ---- what is written are bytes
-pub bytes_below : (n count i : ℕ) → get_or (bytes_of n count) i 0 < 256
-unfolding bytes_of
-bytes_below n zero i = omega arith
-bytes_below n (suc count) zero = mod-lt (n / 256 ^ count) (omega arith)
-bytes_below n (suc count) (suc i) = bytes_below n count i
-
-pub append_below : (a b : List ℕ) → ((i : ℕ) → get_or a i 0 < 256) → ((i : ℕ) → get_or b i 0 < 256) → (i : ℕ) → get_or (a ++ b) i 0 < 256
-append_below [] b f g i = g i
-append_below (x ∷ a) b f g zero = f 0
-append_below (x ∷ a) b f g (suc i) = append_below a b (λ j. f (suc j)) g i
-
-pub doubles_below : (xs : List Float) (i : ℕ) → get_or (doubles_bytes xs) i 0 < 256
-unfolding double_bytes
-doubles_below [] i = omega arith
-doubles_below (x ∷ xs) i = append_below (double_bytes x) (doubles_bytes xs) (bytes_below _ 8) (doubles_below xs) i

@@ -9,7 +9,7 @@ use Rattle.uvtheory.specs.declared.parameters.Mixture.{Mixture}
 use Rattle.uvtheory.specs.declared.parameters.State.{State}
 use Rattle.big_endian.specs.Bytes.{bytes_of, double_bytes, doubles_bytes, written}
 use Rattle.big_endian.proofs.Written as Written
-use Rattle.big_endian.proofs.Written.{again, append_below, begun, bytes_below, doubles_below}
+use Rattle.big_endian.proofs.Written.{again, begun}
 use Rattle.case_record.specs.declared.layout.Header.{Header}
 use Rattle.case_record.specs.Layout.{layout_of}
 use Rattle.case_record.specs.Record.{values}

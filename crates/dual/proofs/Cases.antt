@@ -4,7 +4,7 @@ use mathlib.Core.Path.{◌≡◌, refl, ◌∙◌}
 use mathlib.Core.Bool.{Bool, true, false, false≢true}
 use lib.Dec.{T}
 use lib.IntN.{ℤ}
-use lib.Ieee.{Float, nan, inf, fin, binary64, lt, of_bits}
+use lib.Ieee.{Float, nan, inf, fin, lt, of_bits}
 use lib.Ieee as Ieee
 use lib.Ieee.Scale.{finite}
 use Rattle.arithmetic.specs.Constants.{zero_d, one, two, minus_one, twenty, minus_twenty}

@@ -1,5 +1,5 @@
 // The reader of a run: the bytes of its records, lent, and a position in them.
-ghost use Rattle.std.specs.Prelude.{◌≡◌, ◌+◌, ◌≤◌, MatchOption, MatchResult, drop, length, take};
+ghost use Rattle.std.specs.Prelude.{◌≡◌, ◌+◌, MatchOption, MatchResult, drop, length, take};
 ghost use Rattle.noddyfir.specs.Run.{Broken, UsedUp, Whole, next_at};
 
 use big_endian::big_endian2;

@@ -31,9 +31,6 @@ pub record Bounds (n k : ℕ) : Type 0 where
   pub mirror : At 64 (k % n * n + k / n)
   pub less : n * n - (k + 1) < n * n - k
 
-pub square_fits : (n : ℕ) → n ≤ 8 → Fits w64 (n * n)
-square_fits n h = let z = square_le n h in omega arith
-
 pub pair_within : (n k : ℕ) → n ≤ 8 → k < n * n → Bounds n k
 pair_within n k h l =
     let s = square_le n h in

@@ -1,11 +1,7 @@
 -- An array of eight values, as the function that a formula takes; `none` is read past its end.
-use Rattle.std.proofs.Common.{◌≡◌, ℕ, zero, suc, ◌≤◌, List, [], ◌∷◌, length, get_or, arith}
+use Rattle.std.proofs.Common.{◌≡◌, ℕ, zero, suc, ◌≤◌, [], ◌∷◌, arith}
 use Rattle.std.proofs.Math.Path.{fun_ext}
-use Rattle.std.proofs.lemmas.List.{get_or_past}
 use Rattle.uvtheory.specs.Rows.{row_of}
-
-pub past_end : {X : Type 0} (none : X) (xs : List X) → length xs ≡ 8 → (i : ℕ) → 8 ≤ i → get_or xs i none ≡ none
-past_end none xs l i h = get_or_past xs i none (let z : length xs ≤ i = omega arith in z)
 
 module _ {X : Type 0} (none : X) (x : ℕ → X) (past : (i : ℕ) → 8 ≤ i → none ≡ x i) {a b c d e f g h : X}
     (a_is : a ≡ x 0) (b_is : b ≡ x 1) (c_is : c ≡ x 2) (d_is : d ≡ x 3) (e_is : e ≡ x 4) (f_is : f ≡ x 5) (g_is : g ≡ x 6) (h_is : h ≡ x 7) where

@@ -1,5 +1,5 @@
 // uvtheory/eos/bh/reference_perturbation.rs: the reference perturbation (Mayer-f) by Barker-Henderson.
-ghost use Rattle.std.specs.Prelude.{◌≡◌, ◌≤◌, ◌<◌};
+ghost use Rattle.std.specs.Prelude.{◌≡◌, ◌<◌};
 ghost use Rattle.uvtheory.specs.Rows.{row};
 ghost use Rattle.uvtheory.specs.Inputs.{parameters, state_of};
 ghost use Rattle.uvtheory.specs.Bh.HardSphere.{diameter_bh};

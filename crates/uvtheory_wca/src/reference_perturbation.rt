@@ -1,5 +1,5 @@
 // uvtheory/eos/wca/reference_perturbation.rs and reference_perturbation_uvb3.rs, which differ in their packing tables only.
-ghost use Rattle.std.specs.Prelude.{◌≡◌, ◌≤◌, ◌<◌};
+ghost use Rattle.std.specs.Prelude.{◌≡◌, ◌<◌};
 ghost use Rattle.uvtheory.specs.Tables.{table};
 ghost use Rattle.uvtheory.specs.Rows.{row};
 ghost use Rattle.uvtheory.specs.Inputs.{parameters, state_of};

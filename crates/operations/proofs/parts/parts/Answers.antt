@@ -9,7 +9,7 @@ low : (c : goal.Then-field-eq0) → c.args.b < 2 ^ 52
 low c = omega arith
 
 pub overflow_sub-shift : goal.overflow_sub-shift
-overflow_sub-shift c = (shift_room c.args.b c.requires.0 (low c)).0
+overflow_sub-shift c = shift_room c.args.b c.requires.0 (low c)
 
 pub returns-then-field-eq0 : goal.returns-then-field-eq0
 returns-then-field-eq0 c = let p = subnormal c.args.b c.requires.0 (low c) in record { bound = p.0; has_value = p.1 }
