@@ -19,4 +19,4 @@ pub neighbours-requires : goal.neighbours-requires
 neighbours-requires c = let t = tests c in (sum_positive _ _ t, t.in_order, t.to_limit)
 
 pub returns-then-u : goal.returns-then-u
-returns-then-u c = c.neighbours.ensures ∙ sym (positive_sum _ _ (tests c))
+returns-then-u c = c.neighbours.ensures ∙ sym (positive_sum _ _ (tests c.before))

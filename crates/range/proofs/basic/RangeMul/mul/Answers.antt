@@ -21,6 +21,6 @@ neighbours-requires c =
 
 pub returns-then-u : goal.returns-then-u
 returns-then-u c =
-    let t = factors c in
+    let t = factors c.before in
     let finite = uppers_finite _ _ t (T_from_true _ c.if-u.true) in
     c.neighbours.ensures ∙ sym (positive_product _ _ t finite.0 finite.1)
