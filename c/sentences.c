@@ -18,6 +18,7 @@ static const char *const CODES[] = {
     "The energies have no ends: on the way, a range holds numbers that take different cases of one rule, or a rule has "
     "no result for it.",
     "The energies have no slopes: on the way, a slope is not a finite number.",
+    "Under BH the att of each substance must be 6.",
 };
 /* end of the codes */
 

@@ -73,9 +73,11 @@ enum noddyfir_code {
     /* a range rule fails, so there are energies and no ends; from the calls for ends only */
     NODDYFIR_ENDS = 10,
     /* a slope is not finite, so there are energies and no slopes; from the calls for slopes only */
-    NODDYFIR_SLOPES = 11
+    NODDYFIR_SLOPES = 11,
+    /* perturbation 0 (BH) and an att other than 6; tested between 7 and 8 */
+    NODDYFIR_ATTRACTION = 12
 };
-#define NODDYFIR_CODE_MAX 11
+#define NODDYFIR_CODE_MAX 12
 /* end of the codes */
 
 /*

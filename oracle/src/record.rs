@@ -1,4 +1,4 @@
-//! The case record: reading it with document 01's checks 2 to 8 in their order, and writing it.
+//! The case record: reading it with the checks 2 to 7, 12 and 8 in their order, and writing it.
 
 /// The code of a refusal, by the place of its check.
 pub mod code {
@@ -13,6 +13,7 @@ pub mod code {
     pub const ARITHMETIC: u8 = 9;
     pub const ENDS: u8 = 10;
     pub const SLOPES: u8 = 11;
+    pub const ATTRACTION: u8 = 12;
 }
 
 /// The closed intervals of the fields; the first four are those of a substance.
@@ -70,6 +71,9 @@ pub fn read(record: &[u8]) -> Result<Case, u8> {
     if !substances_pass(&case) {
         return Err(code::SUBSTANCES);
     }
+    if !attraction_passes(&case) {
+        return Err(code::ATTRACTION);
+    }
     if !state_passes(&case) {
         return Err(code::STATE);
     }
@@ -114,6 +118,11 @@ fn lies_in(v: f64, [least, greatest]: [f64; 2]) -> bool {
 fn substances_pass(case: &Case) -> bool {
     let substance = |s: &[f64; 4]| s.iter().zip(interval::SUBSTANCE).all(|(&v, i)| lies_in(v, i));
     case.substances.iter().all(substance) && case.pairs.iter().all(|&k| lies_in(k, interval::K_IJ))
+}
+
+/// M-101: BH records need each att equal to 6.
+fn attraction_passes(case: &Case) -> bool {
+    case.perturbation != 0 || case.substances.iter().all(|s| s[1] == 6.0)
 }
 
 fn state_passes(case: &Case) -> bool {

@@ -1,4 +1,4 @@
-//! A fixed list of records that covers document 01's cases, within the 65,536 bytes of a run.
+//! A fixed list of records that covers the cases of documents 01 and 02, within the 65,536 bytes of a run.
 
 use crate::record::{Case, framed, interval};
 
@@ -8,6 +8,7 @@ pub fn records() -> Vec<u8> {
         malformed(),
         mixtures(),
         limits(),
+        attractions(),
         special_doubles(),
         zeros(),
         without_rule(),
@@ -31,12 +32,16 @@ const SUBSTANCES: [[f64; 4]; 8] = [
     [12.7, 6.5, 3.0, 61.5],
 ];
 
-/// A mixture of the first n substances at a total density per cubic ångström.
+/// A mixture of the first n substances at a total density per cubic ångström; under BH each att is 6.
 fn mixture(perturbation: u8, n: usize, temperature: f64, density: f64) -> Case {
     let molefracs: Vec<f64> = (1..=n).map(|i| (2 * i) as f64 / (n * (n + 1)) as f64).collect();
+    let mut substances = SUBSTANCES[..n].to_vec();
+    if perturbation == 0 {
+        substances.iter_mut().for_each(|s| s[1] = 6.0);
+    }
     Case {
         perturbation,
-        substances: SUBSTANCES[..n].to_vec(),
+        substances,
         pairs: (0..n * (n - 1) / 2).map(|pair| 0.01 * pair as f64 - 0.05).collect(),
         temperature,
         partial_density: molefracs.iter().map(|x| x * density).collect(),
@@ -120,6 +125,27 @@ fn limits() -> Vec<Vec<u8>> {
             case.molefracs = vec![0.5, sum - 0.5];
             records.push(case.record());
         }
+    }
+    records
+}
+
+/// att at 6 and beside it, of the first, the last or an absent component; before it code 7, behind it code 8.
+fn attractions() -> Vec<Vec<u8>> {
+    let mut records = Vec::new();
+    for perturbation in PERTURBATIONS {
+        for (att, at) in [(6.0_f64.next_down(), 0), (6.0_f64.next_up(), 2), (5.5, 1), (6.0, 1)] {
+            let mut case = mixture(perturbation, 3, 300.0, 0.002);
+            case.substances[at][1] = att;
+            records.push(case.record());
+            case.temperature = 0.5;
+            records.push(case.record());
+            case.pairs[2] = 1.0;
+            records.push(case.record());
+        }
+        let mut absent = mixture(perturbation, 2, 300.0, 0.002);
+        absent.substances[1][1] = 5.0;
+        (absent.molefracs, absent.partial_density) = (vec![1.0, 0.0], vec![0.002, 0.0]);
+        records.push(absent.record());
     }
     records
 }

@@ -98,6 +98,29 @@ fn substances_before_state() {
 }
 
 #[test]
+fn attraction_six_for_bh_between_substances_and_state() {
+    let code = |perturbation, at: usize, att: f64, change: fn(&mut Case)| {
+        let mut case = argon(perturbation, 2);
+        case.substances[at][1] = att;
+        change(&mut case);
+        energies_code(&case.record())
+    };
+    let (none, state): (fn(&mut Case), fn(&mut Case)) = (|_| (), |case| case.temperature = 0.5);
+    for (at, att) in [(0, 6.0_f64.next_down()), (1, 6.0_f64.next_up()), (1, 5.0), (0, 7.0)] {
+        assert_eq!([0, 1, 2].map(|p| code(p, at, att, none)), [code::ATTRACTION, 0, 0]);
+        assert_eq!(code(0, at, att, state), code::ATTRACTION);
+        assert_eq!(code(1, at, att, state), code::STATE);
+        assert_eq!(code(0, at, att, |case| case.pairs[0] = 1.0), code::SUBSTANCES);
+    }
+    assert_eq!(code(0, 1, 6.0, none), 0);
+    assert_eq!(code(0, 1, f64::NAN, none), code::SUBSTANCES);
+    let absent = |case: &mut Case| {
+        (case.molefracs, case.partial_density) = (vec![1.0, 0.0], vec![0.001, 0.0]);
+    };
+    assert_eq!(code(0, 1, 5.5, absent), code::ATTRACTION);
+}
+
+#[test]
 fn fractions_sum_to_one_within_limits() {
     let tolerance = 2f64.powi(-40);
     let sum = |sum: f64| changed(|case| case.molefracs = vec![0.5, sum - 0.5]);

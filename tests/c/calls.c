@@ -96,6 +96,21 @@ static void no_slopes(void)
     expect(memcmp(answer, REFUSED, 4) == 0 && untouched(answer, 4), "code 11 has four bytes");
 }
 
+/* BH takes att 6 alone; WCA takes the double beside it too. */
+static void attraction(void)
+{
+    static const uint8_t REFUSED[4] = {0, 2, 1, 12};
+    uint8_t record[KNOWN_SIZE], answer[ROOM];
+    memcpy(record, KNOWN_RECORD, KNOWN_SIZE);
+    record[20] ^= 1; /* the last byte of the first att */
+    record[3] = 1;
+    expect(noddyfir_energies(record, KNOWN_SIZE, answer, ROOM) == NODDYFIR_ACCEPTED, "WCA with an att beside 6");
+    record[3] = 0;
+    memset(answer, 7, ROOM);
+    expect(noddyfir_ends(record, KNOWN_SIZE, answer, ROOM) == NODDYFIR_ATTRACTION, "BH with an att beside 6");
+    expect(memcmp(answer, REFUSED, 4) == 0 && untouched(answer, 4), "code 12 has four bytes");
+}
+
 static void runs(void)
 {
     static const uint8_t TWO[7] = {0, 0, 0, 3, 1, 0, 0}, ANSWERS[8] = {0, 2, 1, 2, 0, 2, 1, 5};
@@ -150,6 +165,7 @@ int main(void)
     single();
     slopes();
     no_slopes();
+    attraction();
     runs();
     runs_of_slopes();
     sentences();

@@ -6,6 +6,8 @@ use Rattle.arithmetic.specs.Constants.{bits}
 use Rattle.arithmetic.specs.Doubles.{guarded}
 use Rattle.uvtheory.specs.declared.parameters.Mixture.{Mixture}
 use Rattle.uvtheory.specs.declared.parameters.State.{State}
+use Rattle.uvtheory.specs.declared.eos.Perturbation.{Perturbation}
+use Rattle.uvtheory.specs.declared.eos.Perturbation.TheVariants.{BarkerHenderson, WeeksChandlerAndersen, WeeksChandlerAndersenB3}
 use Rattle.case_record.specs.declared.case.Case.{Case}
 use Rattle.case_record.specs.Layout.{length_field, header_of, is_perturbation, pairs, length_of}
 use Rattle.refusal.specs.declared.Refusal.{Refusal}
@@ -32,6 +34,10 @@ rep = bits 0x4020000000000000 ‥ bits 0x4048000000000000
 
 abbrev pub att : Interval
 att = bits 0x4014000000000000 ‥ bits 0x401C000000000000
+
+-- M-101: "BH records now need each att equal to 6"
+abbrev pub att_bh : Interval
+att_bh = bits 0x4018000000000000 ‥ bits 0x4018000000000000
 
 abbrev pub sigma : Interval
 sigma = bits 0x3FE0000000000000 ‥ bits 0x4024000000000000
@@ -61,6 +67,7 @@ nearest num den = round binary64 false num den
 
 pub limits : (rep ≡ (nearest 8 1 ‥ nearest 48 1))
     × (att ≡ (nearest 5 1 ‥ nearest 7 1))
+    × (att_bh ≡ (nearest 6 1 ‥ nearest 6 1))
     × (sigma ≡ (nearest 5 10 ‥ nearest 10 1))
     × (epsilon_k ≡ (nearest 1 10 ‥ nearest 5000 1))
     × (k_ij ≡ (round binary64 true 9 10 ‥ nearest 9 10))
@@ -69,7 +76,7 @@ pub limits : (rep ≡ (nearest 8 1 ‥ nearest 48 1))
     × (fraction ≡ (nearest 0 1 ‥ nearest 1 1))
     × (fraction_sum ≡ (nearest (2 ^ 40 - 1) (2 ^ 40) ‥ nearest (2 ^ 40 + 1) (2 ^ 40)))
 unfolding of_bits round
-limits = (refl, refl, refl, refl, refl, refl, refl, refl, refl)
+limits = (refl, refl, refl, refl, refl, refl, refl, refl, refl, refl)
 
 -- NaN and the infinities lie in none, and −0 lies where 0 does
 abbrev none_holds : Float → List Interval → Bool
@@ -77,7 +84,7 @@ none_holds x [] = true
 none_holds x (i ∷ is) = not (inside i x) && none_holds x is
 
 abbrev intervals : List Interval
-intervals = rep ∷ att ∷ sigma ∷ epsilon_k ∷ k_ij ∷ temperature ∷ density ∷ fraction ∷ fraction_sum ∷ []
+intervals = rep ∷ att ∷ att_bh ∷ sigma ∷ epsilon_k ∷ k_ij ∷ temperature ∷ density ∷ fraction ∷ fraction_sum ∷ []
 
 pub in_none : (none_holds nan intervals ≡ true) × (none_holds (inf false) intervals ≡ true) × (none_holds (inf true) intervals ≡ true)
 unfolding of_bits le
@@ -86,6 +93,11 @@ in_none = (refl, refl, refl)
 pub minus_zero : (inside k_ij (bits 0x8000000000000000) ≡ true) × (inside density (bits 0x8000000000000000) ≡ true) × (inside fraction (bits 0x8000000000000000) ≡ true)
 unfolding of_bits le
 minus_zero = (refl, refl, refl)
+
+-- of M-101 the double 6 passes, and the doubles beside it do not
+pub only_six : (inside att_bh (bits 0x4017FFFFFFFFFFFF) ≡ false) × (inside att_bh (bits 0x4018000000000000) ≡ true) × (inside att_bh (bits 0x4018000000000001) ≡ false)
+unfolding of_bits le
+only_six = (refl, refl, refl)
 
 -- ---- the tests of a mixture and of a state
 -- the substances and their pairs
@@ -96,6 +108,12 @@ substances_inside m =
     all_inside sigma m.n m.sigma &&
     all_inside epsilon_k m.n m.epsilon_k &&
     all_inside k_ij (pairs m.n) m.k_ij
+
+-- M-101: "BH records now need each att equal to 6. WCA and B3 keep 5 to 7."
+unfoldable pub attraction_fits : Perturbation → Mixture → Bool
+attraction_fits BarkerHenderson m = all_inside att_bh m.n m.att
+attraction_fits WeeksChandlerAndersen m = true
+attraction_fits WeeksChandlerAndersenB3 m = true
 
 -- the state of n substances
 unfoldable pub state_inside : ℕ → State Float → Bool
@@ -120,8 +138,12 @@ envelope s =
     (Due.Size, eqb (length_field s) (length_of h)) ∷
     []
 
+-- M-101: "12, perturbation 0 and an att other than 6, tested between 7 and 8"
 abbrev pub substances : Case → Checks
-substances c = (Due.Substances, substances_inside c.mixture) ∷ []
+substances c =
+    (Due.Substances, substances_inside c.mixture) ∷
+    (Due.Attraction, attraction_fits c.perturbation c.mixture) ∷
+    []
 
 abbrev pub state : Case → Checks
 state c = (Due.State, state_inside c.mixture.n c.state) ∷ []

@@ -5,7 +5,7 @@ ghost use Rattle.std.specs.Prelude.{◌≡◌, ◌≤◌, [], ◌∷◌, length}
 ghost use Rattle.std.specs.List.{list_all};
 ghost use Rattle.arithmetic.specs.Doubles.{guarded};
 ghost use Rattle.uvtheory.specs.Rows.{doubles};
-ghost use Rattle.checks.specs.Checks.{all_inside, envelope, first_failing, inside, state, state_inside, substances, substances_inside};
+ghost use Rattle.checks.specs.Checks.{all_inside, attraction_fits, envelope, first_failing, inside, state, state_inside, substances, substances_inside};
 
 use big_endian::big_endian2;
 use case_record::case::Case;
@@ -14,6 +14,7 @@ use num_dual::double::Double;
 use refusal::Refusal;
 use uvtheory::arrays::constants;
 use uvtheory::components::Components;
+use uvtheory::eos::Perturbation;
 use uvtheory::hard_sphere::sum;
 use uvtheory::parameters::{Mixture, State};
 
@@ -24,6 +25,9 @@ pub struct Interval(pub f64, pub f64);
 const REP: Interval = Interval(8.0, 48.0);
 
 const ATT: Interval = Interval(5.0, 7.0);
+
+// BH's: its diameters are worked with 6, whatever is sent.
+const ATT_BH: Interval = Interval(6.0, 6.0);
 
 const SIGMA: Interval = Interval(0.5, 10.0);
 
@@ -76,6 +80,18 @@ fn substances_inside(m: &Mixture) -> bool
         & K_IJ.contains_first(pairs(m.n), &m.k_ij)
 }
 
+// Whether each att is one that the perturbation is worked for.
+#[tactic(auto, unfolding(crate::specs::Checks::attraction_fits))]
+fn attraction_fits(perturbation: Perturbation, m: &Mixture) -> bool
+    ensures { result ≡ attraction_fits perturbation m.now }
+{
+    match perturbation {
+        Perturbation::BarkerHenderson => ATT_BH.contains_first(m.n.get(), &m.att),
+        Perturbation::WeeksChandlerAndersen => true,
+        Perturbation::WeeksChandlerAndersenB3 => true,
+    }
+}
+
 // The vector sum of the first n doubles.
 fn vector_sum(n: Components, values: &[f64; 8]) -> f64
     ensures { result ≡ guarded.sum n (doubles values.now) }
@@ -117,11 +133,12 @@ pub fn envelope(record: &[u8]) -> Result<(), Refusal>
     require(length == length_of(h), Refusal::Size)
 }
 
-// The code 7.
+// The codes 7 and 12.
 pub fn substances(c: &Case) -> Result<(), Refusal>
     ensures { result ≡ first_failing (substances c.now) }
 {
-    require(substances_inside(&c.mixture), Refusal::Substances)
+    require(substances_inside(&c.mixture), Refusal::Substances)?;
+    require(attraction_fits(c.perturbation, &c.mixture), Refusal::Attraction)
 }
 
 // The code 8.

@@ -17,6 +17,7 @@ pub enum Refusal {
     Arithmetic = 9,
     Ends = 10,
     Slopes = 11,
+    Attraction = 12,
 }
 
 // The number that an answer's code byte has, and that a call returns.

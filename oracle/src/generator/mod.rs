@@ -37,13 +37,32 @@ fn mixture(
     k_ij: impl Fn(&mut Random) -> f64,
 ) -> Case {
     let n = 1 + random.below(8);
-    Case {
+    let mut case = Case {
         perturbation: random.below(3) as u8,
         substances: (0..n).map(|_| substance(random)).collect(),
         pairs: (0..n * (n - 1) / 2).map(|_| k_ij(random)).collect(),
         temperature: 300.0,
         partial_density: vec![0.0; n],
         molefracs: fractions(random, n),
+    };
+    if case.perturbation == 0 {
+        set_barker_henderson(random, &mut case);
+    }
+    case
+}
+
+/// BH, which needs each att equal to 6: so it is, but once in 16 times for one component, and once in
+/// 16 times as drawn.
+fn set_barker_henderson(random: &mut Random, case: &mut Case) {
+    case.perturbation = 0;
+    if random.once_in(16) {
+        return;
+    }
+    case.substances.iter_mut().for_each(|s| s[1] = 6.0);
+    if random.once_in(16) {
+        let one = random.below(case.substances.len());
+        let beside = [6.0_f64.next_down(), 6.0_f64.next_up(), 5.0, 7.0, 5.5, -6.0];
+        case.substances[one][1] = random.pick(&beside);
     }
 }
 

@@ -1,7 +1,7 @@
 //! States at which slopes are extreme: the smallest densities, where BH's logarithm of the density is
 //! steepest and its powers vanish, the greatest densities, and cold states of large molecules.
 
-use super::{realistic, set_density, wide};
+use super::{realistic, set_barker_henderson, set_density, wide};
 use crate::random::Random;
 use crate::record::{Case, interval};
 
@@ -51,7 +51,7 @@ fn share(case: &mut Case, density: f64) {
 
 /// Reduced densities whose power 1.2187 or 4.2773 under BH is near exp(−700).
 fn vanishing_powers(random: &mut Random, case: &mut Case) {
-    case.perturbation = 0;
+    set_barker_henderson(random, case);
     let reduced_density = random.pick(&[3.3e-250, 8.4e-72]) * (0.5 + random.unit());
     set_density(case, reduced_density);
 }
@@ -83,7 +83,7 @@ fn cold(random: &mut Random, case: &mut Case) {
 
 /// BH's logarithm has a slope that is not finite, and the virial coefficient, worked later, no value.
 fn slope_then_value(random: &mut Random, case: &mut Case) {
-    case.perturbation = 0;
+    set_barker_henderson(random, case);
     cold(random, case);
     case.temperature = case.substances[0][3] / random.between([701.0, 709.0]);
     share(case, random.unit() * f64::MIN_POSITIVE);

@@ -143,7 +143,7 @@ fn explain(refusal: Refusal, case: &Case, input: &Input, swept: Option<Variable>
     if refusal == Refusal::Ends {
         return format!("{sentence} {HINT}");
     }
-    let by_field = matches!(refusal, Refusal::Substances | Refusal::State);
+    let by_field = matches!(refusal, Refusal::Substances | Refusal::Attraction | Refusal::State);
     let Some(fault) = case.field_at_fault().filter(|_| by_field) else { return sentence };
     let fault = cause(case, fault);
     let by_sweep = match fault.field {

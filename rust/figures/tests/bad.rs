@@ -160,6 +160,15 @@ fn values_outside_their_intervals() {
 }
 
 #[test]
+fn an_att_other_than_six_under_bh() {
+    let bh = changed("= WCA", "= BH").replacen("att = 6", "att = 5.5", 1);
+    let message =
+        "att of argon is 5.5, and must be 6 under BH. Refused (code 12). Under BH the att of each";
+    refused(&bh, 1, line_of("att"), message);
+    assert_eq!(figures(&bh.replace("= BH", "= WCA"), &[]).status, Some(0));
+}
+
+#[test]
 fn energies_without_ends_are_printed_and_refused() {
     // 300 is three times 100.
     let result = figures(&changed("117.84", "100").replace("293.15", "300"), &[]);

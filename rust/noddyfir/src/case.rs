@@ -80,8 +80,9 @@ impl Case {
         records[start..start + 2].copy_from_slice(&length.to_be_bytes());
     }
 
-    /// The first value, in the order of the record, that is outside its interval; so for [`Refusal::Substances`] and
-    /// [`Refusal::State`] the one that is refused. The refusal itself is the proved library's; this only names the field.
+    /// The first value, in the order of the checks, that is outside its interval; so for [`Refusal::Substances`],
+    /// [`Refusal::Attraction`] and [`Refusal::State`] the one that is refused. The refusal itself is the proved library's;
+    /// this only names the field.
     ///
     /// ```
     /// use noddyfir::{Case, Field, Mixture, Perturbation, Refusal, State, Substance, energies};

@@ -1,6 +1,6 @@
-//! Which value of a case is outside its interval.
+//! Which value of a case is outside its interval, or under BH is an att other than 6.
 
-use crate::Case;
+use crate::{Case, Mixture, Perturbation, State};
 use std::fmt::{self, Display, Formatter};
 
 /// A value of a case. Substances are counted from 0.
@@ -27,7 +27,7 @@ pub enum Field {
 }
 
 impl Field {
-    /// The closed interval that the value must lie in.
+    /// The closed interval that the value must lie in, under every perturbation.
     pub fn interval(self) -> [f64; 2] {
         const TOLERANCE: f64 = 1.0 / (1u64 << 40) as f64;
         match self {
@@ -61,7 +61,7 @@ impl Display for Field {
     }
 }
 
-/// A value outside its interval.
+/// A value outside its interval, or under BH an att other than 6.
 #[derive(Clone, Copy, Debug, PartialEq)]
 pub struct FieldAtFault {
     /// Which value.
@@ -76,6 +76,9 @@ impl FieldAtFault {
         if self.field == Field::MolefracSum {
             return format!("is {}, and must be 1 within 2^-40", self.value);
         }
+        if !outside(self) {
+            return format!("is {}, and must be 6 under BH", self.value);
+        }
         let [least, greatest] = self.field.interval();
         format!("is {}, and must be from {least} to {greatest}", self.value)
     }
@@ -87,8 +90,12 @@ impl Display for FieldAtFault {
     }
 }
 
+/// In the order of the checks: codes 7, 12 and 8.
 pub(crate) fn first_at_fault(case: &Case) -> Option<FieldAtFault> {
-    fields(case).into_iter().find(outside)
+    let first_outside = |fields: Vec<FieldAtFault>| fields.into_iter().find(outside);
+    first_outside(substances(case.mixture()))
+        .or_else(|| attraction_at_fault(case))
+        .or_else(|| first_outside(state(case.state())))
 }
 
 /// NaN lies in no interval.
@@ -97,11 +104,18 @@ fn outside(fault: &FieldAtFault) -> bool {
     !(least <= fault.value && fault.value <= greatest)
 }
 
-/// All values in the order of the record, and then the sum of the fractions.
-fn fields(case: &Case) -> Vec<FieldAtFault> {
+/// The first att other than 6 under BH.
+fn attraction_at_fault(case: &Case) -> Option<FieldAtFault> {
+    let barker_henderson = case.perturbation() == Perturbation::BarkerHenderson;
+    let mut atts = case.mixture().substances().iter().map(|s| s.att).enumerate();
+    let (i, value) = atts.find(|&(_, att)| barker_henderson && att != 6.0)?;
+    Some(FieldAtFault { field: Field::Att(i), value })
+}
+
+/// The values of the substances in the order of the record.
+fn substances(mixture: &Mixture) -> Vec<FieldAtFault> {
     let mut all = Vec::new();
     let mut add = |field, value| all.push(FieldAtFault { field, value });
-    let (mixture, state) = (case.mixture(), case.state());
     let n = mixture.substances().len();
     for (i, s) in mixture.substances().iter().enumerate() {
         add(Field::Rep(i), s.rep);
@@ -112,6 +126,13 @@ fn fields(case: &Case) -> Vec<FieldAtFault> {
     for (i, j) in (0..n).flat_map(|i| (i + 1..n).map(move |j| (i, j))) {
         add(Field::Kij(i, j), mixture.k_ij(i, j));
     }
+    all
+}
+
+/// The values of the state in the order of the record, and then the sum of the fractions.
+fn state(state: &State) -> Vec<FieldAtFault> {
+    let mut all = Vec::new();
+    let mut add = |field, value| all.push(FieldAtFault { field, value });
     add(Field::Temperature, state.temperature);
     for (i, &density) in state.partial_density.iter().enumerate() {
         add(Field::PartialDensity(i), density);

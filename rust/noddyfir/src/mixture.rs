@@ -8,7 +8,7 @@ pub const MAX_SUBSTANCES: usize = 8;
 pub struct Substance {
     /// The repulsive exponent, 8 to 48.
     pub rep: f64,
-    /// The attractive exponent, 5 to 7.
+    /// The attractive exponent, 5 to 7; under BH 6.
     pub att: f64,
     /// The diameter in ångström, 0.5 to 10.
     pub sigma: f64,
@@ -17,7 +17,8 @@ pub struct Substance {
 }
 
 impl Substance {
-    /// Any values; the calls refuse those outside their intervals, with [`Refusal::Substances`].
+    /// Any values; the calls refuse those outside their intervals, with [`Refusal::Substances`], and under BH another att
+    /// than 6, with [`Refusal::Attraction`].
     pub fn new(rep: f64, att: f64, sigma: f64, epsilon_k: f64) -> Self {
         Self { rep, att, sigma, epsilon_k }
     }

@@ -32,6 +32,8 @@ pub enum Refusal {
     Ends,
     /// Code 11: a slope is not finite, so there are energies and no slopes; from the calls for slopes only.
     Slopes,
+    /// Code 12: perturbation 0 (BH) and an att other than 6; tested between 7 and 8.
+    Attraction,
     // end of the codes
     /// Another code: the library is newer than this crate. Only code 0 is success.
     Unknown(u8),
@@ -57,6 +59,7 @@ const CODES: &[(Refusal, &str)] = &[
     (Refusal::Ends, "The energies have no ends: on the way, a range holds numbers that take different cases of one \
         rule, or a rule has no result for it."),
     (Refusal::Slopes, "The energies have no slopes: on the way, a slope is not a finite number."),
+    (Refusal::Attraction, "Under BH the att of each substance must be 6."),
 ];
 // end of the codes
 

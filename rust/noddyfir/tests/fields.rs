@@ -1,4 +1,4 @@
-//! The field that the crate names is at fault exactly where the proved library refuses by code 7 or 8.
+//! The field that the crate names is at fault exactly where the proved library refuses by code 7, 12 or 8.
 
 use noddyfir::{
     Case, Field, Mixture, Perturbation, Refusal, State, Substance, energies, run_energies,
@@ -13,7 +13,15 @@ fn case(change: impl FnOnce(&mut Substance, &mut f64, &mut State)) -> Case {
     let mut state = State::with_density(293.15, 0.005, vec![0.5, 0.25, 0.25]);
     change(&mut last, &mut k_ij, &mut state);
     let mixture = Mixture::new(vec![argon(), argon(), last]).unwrap().with_k_ij(2, 1, k_ij);
-    Case::new(Perturbation::BarkerHenderson, mixture, state).unwrap()
+    Case::new(Perturbation::WeeksChandlerAndersen, mixture, state).unwrap()
+}
+
+/// The same under BH, with this att of the first substance.
+fn under_bh(case: &Case, att: f64) -> Case {
+    let mut substances = case.mixture().substances().to_vec();
+    substances[0].att = att;
+    let mixture = Mixture::new(substances).unwrap();
+    Case::new(Perturbation::BarkerHenderson, mixture, case.state().clone()).unwrap()
 }
 
 /// A change of one value, by the name of its field.
@@ -82,6 +90,25 @@ fn on_each_limit_no_field_is_at_fault() {
             assert!(!matches!(refusal, Some(Refusal::Substances | Refusal::State)), "{field}");
         }
     }
+}
+
+#[test]
+fn under_bh_an_att_other_than_six_is_named_between_substances_and_state() {
+    for value in [5.0, 6.0_f64.next_down(), 6.0_f64.next_up(), 7.0] {
+        let wca = changed(Field::Att(2), value);
+        assert!(energies(&wca).is_ok());
+        let bh = under_bh(&wca, 6.0);
+        assert_eq!(energies(&bh), Err(Refusal::Attraction));
+        let fault = bh.field_at_fault().unwrap().to_string();
+        assert_eq!(fault, format!("att of substance 3 is {value}, and must be 6 under BH"));
+    }
+    let beside = |field, value| {
+        let bh = under_bh(&changed(field, value), 5.5);
+        (bh.field_at_fault().unwrap().field, energies(&bh).unwrap_err())
+    };
+    assert_eq!(beside(Field::Sigma(2), 0.1), (Field::Sigma(2), Refusal::Substances));
+    assert_eq!(beside(Field::Temperature, 0.1), (Field::Att(0), Refusal::Attraction));
+    assert!(energies(&under_bh(&changed(Field::Att(2), 6.0), 6.0)).is_ok());
 }
 
 #[test]

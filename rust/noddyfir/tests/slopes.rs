@@ -10,26 +10,27 @@ fn argon_methane() -> Mixture {
     Mixture::binary(argon, Substance::new(12.65, 6.0, 3.7412, 153.36), 0.01)
 }
 
-/// Eight substances that differ.
-fn eight() -> (Mixture, Vec<f64>) {
+/// Eight substances that differ; BH takes att 6 alone.
+fn eight(perturbation: Perturbation) -> (Mixture, Vec<f64>) {
     let substance = |i: i32| {
         let i = f64::from(i);
-        Substance::new(10.0 + 2.0 * i, 5.5 + 0.2 * i, 2.5 + 0.2 * i, 40.0 + 30.0 * i)
+        let att = if perturbation == Perturbation::BarkerHenderson { 6.0 } else { 5.5 + 0.2 * i };
+        Substance::new(10.0 + 2.0 * i, att, 2.5 + 0.2 * i, 40.0 + 30.0 * i)
     };
     let fractions = [1.0, 2.0, 3.0, 4.0, 5.0, 6.0, 7.0, 4.0].map(|part| part / 32.0);
     (Mixture::new((0..8).map(substance).collect()).unwrap(), fractions.to_vec())
 }
 
-fn mixtures() -> [(Mixture, Vec<f64>); 3] {
+fn mixtures(perturbation: Perturbation) -> [(Mixture, Vec<f64>); 3] {
     let pure = Mixture::pure(Substance::new(20.0, 6.0, 3.0, 100.0));
-    [(pure, vec![1.0]), (argon_methane(), vec![0.8, 0.2]), eight()]
+    [(pure, vec![1.0]), (argon_methane(), vec![0.8, 0.2]), eight(perturbation)]
 }
 
 /// A case of each perturbation, mixture, temperature and density, at a relative change of the density.
 fn cases(change: f64) -> Vec<Case> {
     let mut cases = Vec::new();
     for perturbation in Perturbation::ALL {
-        for (mixture, fractions) in mixtures() {
+        for (mixture, fractions) in mixtures(perturbation) {
             for (temperature, density) in [(150.3, 1e-4), (293.15, 0.005), (412.7, 0.015)] {
                 let density = density * (1.0 + change);
                 let state = State::with_density(temperature, density, fractions.clone());
