@@ -138,7 +138,10 @@ pub fn substances(c: &Case) -> Result<(), Refusal>
     ensures { result ≡ first_failing (substances c.now) }
 {
     require(substances_inside(&c.mixture), Refusal::Substances)?;
-    require(attraction_fits(c.perturbation, &c.mixture), Refusal::Attraction)
+    require(
+        attraction_fits(c.perturbation, &c.mixture),
+        Refusal::Attraction,
+    )
 }
 
 // The code 8.
