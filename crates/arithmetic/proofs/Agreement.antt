@@ -10,9 +10,9 @@ use lib.Ieee.Scale.{finite}
 use Rattle.arithmetic.specs.Value.{value}
 use Rattle.arithmetic.specs.Basic.{Basic, Limit, Step, passes, pick}
 use Rattle.arithmetic.specs.Root.{sqrt}
-use Rattle.arithmetic.specs.Arithmetic.{Arithmetic}
+use Rattle.arithmetic.specs.Arithmetic.{Arithmetic, product_power}
 use Rattle.arithmetic.specs.Doubles.{checked, quotient, tested, stepped, or_nan, strict, plain, doubles, guarded}
-use Rattle.arithmetic.proofs.Both.{Both, BasicKept, basic_both, Kept, both, over_kept}
+use Rattle.arithmetic.proofs.Both.{Both, BasicKept, basic_both, Kept, both, over_kept, powi_kept}
 
 -- the strict value d is the code's value g, checked
 pub record Same (g d : Float) : Type 0 where
@@ -137,7 +137,10 @@ pub in_code : (b : Both Same) → T (finite b.right) → b.right ≡ b.left
 in_code b p = sym b.holds.is ∙ checked_is b.left (was_finite b.left (subst (λ (x : Float). T (finite x)) (sym b.holds.is) p))
 
 pub agreement : Kept guarded doubles Same
-agreement = over_kept plain strict Same plain_strict sqrt (λ x. checked (sqrt x)) (λ a x p. same (rw (← p.is) (of_sqrt a)))
+agreement =
+    over_kept plain strict Same plain_strict (product_power plain) (product_power strict) sqrt (λ x. checked (sqrt x))
+    (λ a x n p. powi_kept plain strict Same plain_strict n p)
+    (λ a x p. same (rw (← p.is) (of_sqrt a)))
 
 -- a formula worked in `agreed` is the proof that its guarded value, checked, is its strict value
 abbrev pub agreed : Arithmetic (Both Same)

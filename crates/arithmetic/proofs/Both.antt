@@ -5,7 +5,7 @@ use lib.Ieee.{Float}
 use Rattle.arithmetic.specs.Basic.{Basic, Limit, Step, below}
 use Rattle.arithmetic.specs.Constants.{zero_d, one}
 use Rattle.arithmetic.specs.Recipes as Recipes
-use Rattle.arithmetic.specs.Arithmetic.{Arithmetic, over, sum_by, power_by}
+use Rattle.arithmetic.specs.Arithmetic.{Arithmetic, over, product_power, sum_by, power_by}
 
 -- a value of each meaning, in the relation
 module _ {X Y : Type 0} (R : X → Y → Type 0) where
@@ -72,7 +72,7 @@ module _ (A B : Basic) (R : A.Value → B.Value → Type 0) where
     powf_kept h k = (Recipes.powf basic_both (both_of R h) (both_of R k)).holds
 
     -- ---- sums and powers
-    pub powi_kept : {a : A.Value} {x : B.Value} (n : ℕ) → R a x → R (power_by (A.constant one) A.mul a n) (power_by (B.constant one) B.mul x n)
+    pub powi_kept : {a : A.Value} {x : B.Value} (n : ℕ) → R a x → R (product_power A a n) (product_power B x n)
     unfolding power_by
     powi_kept zero h = K.constant one
     powi_kept (suc zero) h = h
@@ -122,17 +122,19 @@ module _ {X Y : Type 0} (A : Arithmetic X) (B : Arithmetic Y) (R : X → Y → T
       sum = λ n f. both_of R (K.sum n (λ i. (f i).holds));
     }
 
--- ---- from the operations of the recipes and a root to those of the formulas
-module _ (A B : Basic) (R : A.Value → B.Value → Type 0) (K : BasicKept A B R) (root_a : A.Value → A.Value) (root_b : B.Value → B.Value) where
-  pub over_kept : ((a : A.Value) (x : B.Value) → R a x → R (root_a a) (root_b x)) → Kept (over A root_a) (over B root_b) R
-  over_kept root_kept = record {
+-- ---- from the operations of the recipes, a power and a root to those of the formulas
+module _ (A B : Basic) (R : A.Value → B.Value → Type 0) (K : BasicKept A B R)
+    (power_a : A.Value → ℕ → A.Value) (power_b : B.Value → ℕ → B.Value) (root_a : A.Value → A.Value) (root_b : B.Value → B.Value) where
+  pub over_kept : ((a : A.Value) (x : B.Value) (n : ℕ) → R a x → R (power_a a n) (power_b x n)) → ((a : A.Value) (x : B.Value) → R a x → R (root_a a) (root_b x))
+      → Kept (over A power_a root_a) (over B power_b root_b) R
+  over_kept power_kept root_kept = record {
     constant = K.constant;
     add = K.add;
     neg = K.neg;
     sub = K.sub;
     mul = K.mul;
     div = K.div;
-    powi = powi_kept A B R K;
+    powi = λ {a} {x} n h. power_kept a x n h;
     sqrt = λ {a} {x} h. root_kept a x h;
     ln = ln_kept A B R K;
     ln1p = ln1p_kept A B R K;

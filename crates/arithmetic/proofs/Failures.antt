@@ -1,4 +1,4 @@
--- Where the operations of the recipes and the root lose no failure, the operations of the formulas lose none. Doubles are such.
+-- Where the operations of the recipes, the power and the root lose no failure, the operations of the formulas lose none. Doubles are such.
 use mathlib.Core.Path.{◌≡◌, refl, ap, subst, ◌∙◌}
 use mathlib.Core.Logic.{◌⊎◌, inl, inr}
 use mathlib.Core.Bool.{Bool, true, false, not, cond}
@@ -13,17 +13,17 @@ use Rattle.arithmetic.specs.Basic.{Basic, below, passes}
 use Rattle.arithmetic.specs.Value.{value}
 use Rattle.arithmetic.specs.Constants.{zero_d, one}
 use Rattle.arithmetic.specs.Recipes as R
-use Rattle.arithmetic.specs.Arithmetic.{over, power_by, sum_by}
+use Rattle.arithmetic.specs.Arithmetic.{over, product_power, power_by, sum_by}
 use Rattle.arithmetic.specs.Root.{sqrt}
 use Rattle.arithmetic.specs.Doubles.{checked, strict, doubles}
 use Rattle.arithmetic.specs.Failures.{KeepsFailure, KeepsFailures}
 use Rattle.arithmetic.proofs.Nan.{add_nan, mul_nan, div_nan}
 
-module _ (A : Basic) (Well : A.Value → Type 0) (K : KeepsFailure A Well) (root : A.Value → A.Value) (root_kept : (x : A.Value) → Well (root x) → Well x) where
-  powi_kept : (x : A.Value) (k : ℕ) → Well (power_by (A.constant one) A.mul x (suc k)) → Well x
+module _ (A : Basic) (Well : A.Value → Type 0) (K : KeepsFailure A Well) where
+  pub product_power_kept : (x : A.Value) (k : ℕ) → Well (product_power A x (suc k)) → Well x
   unfolding power_by
-  powi_kept x zero h = h
-  powi_kept x (suc k) h = (K.mul _ x h).1
+  product_power_kept x zero h = h
+  product_power_kept x (suc k) h = (K.mul _ x h).1
 
   exp_kept : (x : A.Value) → Well (R.exp A x) → Well x
   unfolding R.exp
@@ -43,15 +43,16 @@ module _ (A : Basic) (Well : A.Value → Type 0) (K : KeepsFailure A Well) (root
       let w = K.add _ (f n) h in
       elim (eq-or-lt_of_le l) [ inl e ↦ subst (λ (j : ℕ). Well (f j)) (omega (arith, e)) w.1 | inr k ↦ sum_kept n f w.0 i (omega (arith, k)) ]
 
-  pub failures_kept : KeepsFailures (over A root) Well
+  pub failures_kept : (power : A.Value → ℕ → A.Value) → ((x : A.Value) (k : ℕ) → Well (power x (suc k)) → Well x) → (root : A.Value → A.Value) → ((x : A.Value) → Well (root x) → Well x)
+      → KeepsFailures (over A power root) Well
   unfolding R.ln R.ln1p R.tanh
-  failures_kept = record {
+  failures_kept power power_kept root root_kept = record {
     add = K.add;
     neg = K.neg;
     sub = K.sub;
     mul = K.mul;
     div = K.div;
-    powi = powi_kept;
+    powi = power_kept;
     sqrt = root_kept;
     ln = λ x h. K.step _ x _ h;
     ln1p = λ x h. (K.test _ x _ _ h).0;
@@ -110,4 +111,5 @@ doubles_keep = record {
 
 pub doubles_keep_failures : KeepsFailures doubles (λ x. T (not (is_nan x)))
 unfolding sqrt
-doubles_keep_failures = failures_kept strict (λ x. T (not (is_nan x))) doubles_keep (λ x. checked (sqrt x)) (one_kept sqrt refl)
+doubles_keep_failures =
+    failures_kept strict (λ x. T (not (is_nan x))) doubles_keep (product_power strict) (product_power_kept strict (λ x. T (not (is_nan x))) doubles_keep) (λ x. checked (sqrt x)) (one_kept sqrt refl)

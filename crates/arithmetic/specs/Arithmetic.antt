@@ -1,4 +1,4 @@
--- The operations that every formula is written over, on the values of a type, and how the operations of the recipes and a root make them.
+-- The operations that every formula is written over, on the values of a type, and how the operations of the recipes, a power and a root make them.
 use Rattle.std.specs.Prelude.{ℕ, zero, suc, Float}
 use Rattle.arithmetic.specs.Basic.{Basic, below}
 use Rattle.arithmetic.specs.Constants.{zero_d, one}
@@ -36,15 +36,18 @@ module _ {X : Type 0} (unit : X) (times : X → X → X) where
   power_by x (suc zero) = x
   power_by x (suc (suc n)) = times (power_by x (suc n)) x
 
-abbrev pub over : (A : Basic) → (A.Value → A.Value) → Arithmetic A.Value
-over A root = record {
+abbrev pub product_power : (A : Basic) → A.Value → ℕ → A.Value
+product_power A = power_by (A.constant one) A.mul
+
+abbrev pub over : (A : Basic) → (power : A.Value → ℕ → A.Value) → (root : A.Value → A.Value) → Arithmetic A.Value
+over A power root = record {
   constant = A.constant;
   add = A.add;
   neg = A.neg;
   sub = A.sub;
   mul = A.mul;
   div = A.div;
-  powi = power_by (A.constant one) A.mul;
+  powi = power;
   sqrt = root;
   ln = Recipes.ln A;
   ln1p = Recipes.ln1p A;

@@ -10,7 +10,7 @@ use Rattle.std.specs.Float.Ieee.Scale.{finite}
 use Rattle.arithmetic.specs.Value.{value}
 use Rattle.arithmetic.specs.Basic.{Basic, Limit, Step, passes, pick}
 use Rattle.arithmetic.specs.Root.{sqrt}
-use Rattle.arithmetic.specs.Arithmetic.{Arithmetic, over}
+use Rattle.arithmetic.specs.Arithmetic.{Arithmetic, over, product_power}
 
 -- what is not finite is NaN
 abbrev pub checked : Float → Float
@@ -74,7 +74,7 @@ plain = record {
 }
 
 abbrev pub doubles : Arithmetic Float
-doubles = over strict (λ x. checked (sqrt x))
+doubles = over strict (product_power strict) (λ x. checked (sqrt x))
 
 abbrev pub guarded : Arithmetic Float
-guarded = over plain sqrt
+guarded = over plain (product_power plain) sqrt

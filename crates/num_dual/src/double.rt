@@ -2,8 +2,8 @@
 ghost use Rattle.std.specs.Prelude.{◌≡◌, Float, refl};
 ghost use Rattle.std.proofs.Common.{lit≤};
 ghost use Rattle.arithmetic.specs.Doubles.{guarded};
-ghost use Rattle.arithmetic.proofs.Repeated.{empty_sum, longer_sum, single_factor};
-ghost use Rattle.num_dual.specs.Powers.{powers_by};
+ghost use Rattle.arithmetic.proofs.Repeated.{empty_sum, longer_sum};
+ghost use Rattle.num_dual.specs.Powers.{from_left};
 
 use crate::dual_num::DualNum;
 use elementary::exponential::{exp, powf, tanh};
@@ -180,9 +180,7 @@ impl DualNum for Double {
 
     ghost div_is = { λ _ _ _ e. e };
 
-    ghost powi_one = { single_factor _ _ };
-
-    ghost powi_step = { powers_by guarded _ (λ _ _. refl) };
+    ghost powi_is = { from_left guarded (λ _ _ _ _. refl) };
 
     ghost sum_start = { empty_sum _ _ };
 

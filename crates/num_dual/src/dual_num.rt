@@ -72,10 +72,8 @@ pub trait DualNum: Copy
 
     ghost div_is: { (a b r : Self) → Self.div_gives a b r → r ≡ arithmetic.div a b };
 
-    // A power of one factor, and of one more.
-    ghost powi_one: { (a : Self) → arithmetic.powi a 1 ≡ a };
-
-    ghost powi_step: { PowersFromLeft arithmetic };
+    // Powers go from the left, but for squares and fourth powers.
+    ghost powi_is: { PowersFromLeft arithmetic };
 
     // Sums go from the left.
     ghost sum_start: { (f : ℕ → Self) → arithmetic.sum 0 f ≡ arithmetic.constant zero_d };

@@ -1,9 +1,10 @@
 // Ranges and values with slopes as number types.
 ghost use Rattle.std.specs.Prelude.{refl};
 ghost use Rattle.std.proofs.Common.{lit≤};
-ghost use Rattle.arithmetic.proofs.Repeated.{empty_sum, longer_sum, single_factor};
-ghost use Rattle.num_dual.specs.Powers.{powers_by};
+ghost use Rattle.arithmetic.proofs.Repeated.{empty_sum, longer_sum};
+ghost use Rattle.num_dual.specs.Powers.{from_left};
 ghost use Rattle.range.specs.Rules.{ranges};
+ghost use Rattle.range.proofs.EvenPowers.{other_powers};
 ghost use Rattle.dual.specs.Rules.{guarded_slopes};
 
 use crate::dual_num::DualNum;
@@ -71,9 +72,7 @@ impl DualNum for Range {
 
     ghost div_is = { λ _ _ _ e. e };
 
-    ghost powi_one = { single_factor _ _ };
-
-    ghost powi_step = { powers_by ranges _ (λ _ _. refl) };
+    ghost powi_is = { from_left ranges other_powers };
 
     ghost sum_start = { empty_sum _ _ };
 
@@ -141,9 +140,7 @@ impl DualNum for Dual {
 
     ghost div_is = { λ _ _ _ e. e };
 
-    ghost powi_one = { single_factor _ _ };
-
-    ghost powi_step = { powers_by guarded_slopes _ (λ _ _. refl) };
+    ghost powi_is = { from_left guarded_slopes (λ _ _ _ _. refl) };
 
     ghost sum_start = { empty_sum _ _ };
 
