@@ -16,7 +16,8 @@ use Rattle.range.proofs.Contained.{Certain, CertainOf, Contained, constant_conta
 use Rattle.range.proofs.Operations.{add_contained, sub_contained, mul_contained, div_contained}
 use Rattle.range.proofs.Choosing.{test_contained}
 use Rattle.range.proofs.Root.{root_contained}
-use Rattle.range.proofs.Recipes.{ln_contained, ln1p_contained, exp_contained, tanh_contained, powf_contained, powi_contained, sum_contained}
+use Rattle.range.proofs.Recipes.{ln_contained, ln1p_contained, exp_contained, tanh_contained, powf_contained, sum_contained}
+use Rattle.range.proofs.EvenPowers.{powi_contained}
 
 pub record Holds (d : Float) (x : Reading) : Type 0 where
   pub at : (c : Choices) → Contained d x.range (x.at c)

@@ -118,6 +118,13 @@ plus_zero_value x f = go (eq x zero_d) refl
     go true e = let z = zero_value x f e in ≈-trans zero_is (z.1, z.0)
     go false e = (≼_refl (value x), ≼_refl (value x))
 
+plus_zero_finite : (x : Float) → T (finite x) → T (finite (plus_zero x))
+plus_zero_finite x p = go (eq x zero_d)
+  where
+    go : (b : Bool) → T (finite (cond b zero_d x))
+    go true = zero_number
+    go false = p
+
 -- ---- ends
 -- h is finite, and a number between l and u
 abbrev pub Between : Float → Float → Float → Type 0
@@ -135,9 +142,25 @@ finite_ends l u = go (finite l) (finite u) (λ t. t) (λ t. t)
     go true false L U p = absurd p
     go false b L U p = absurd p
 
+-- the range of two finite ends: they stay the numbers that they are
+pub record Made (l u : Float) (t : Range) : Type 0 where
+  pub has_ends : Ok t
+  pub doubles : OfDoubles t
+  pub lower : value t.lower ≈ value l
+  pub upper : value t.upper ≈ value u
+
 module _ (l u : Float) (fl : T (fits binary64 l)) (fu : T (fits binary64 u)) where
   plus_zero_within : {q : Fraction} → Within l u q → Within (plus_zero l) (plus_zero u) q
   plus_zero_within w = record { low = ≼_trans (plus_zero_value l fl).0 w.low; high = ≼_trans w.high (plus_zero_value u fu).1 }
+
+  pub ends_made : T (finite l) → T (finite u) → Made l u (ends l u)
+  unfolding ends
+  ends_made p q = rw (is_true (finite l) p, is_true (finite u) q) (record {
+    has_ends = and_i (finite (plus_zero l)) (finite (plus_zero u)) (plus_zero_finite l p) (plus_zero_finite u q);
+    doubles = (plus_zero_fits l fl, plus_zero_fits u fu);
+    lower = plus_zero_value l fl;
+    upper = plus_zero_value u fu;
+  })
 
   pub ends_certain : (h : Float) (q : Fraction) → T (fits binary64 h) → (T (finite l) → T (finite u) → Between l u h × Within l u q) → Ok (ends l u) → Certain (checked h) (ends l u) q
   unfolding ends

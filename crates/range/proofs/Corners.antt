@@ -108,11 +108,11 @@ module _ (x y : Float) (p : T (le x x)) (q : T (le y y)) where
       go true h k = (p, h tt, p)
       go false h k = (k tt, q, q)
 
-least_fits : (x y : Float) → T (fits binary64 x) → T (fits binary64 y) → T (fits binary64 (least x y))
+pub least_fits : (x y : Float) → T (fits binary64 x) → T (fits binary64 y) → T (fits binary64 (least x y))
 unfolding least
 least_fits x y h k = cond-fits binary64 (lt y x) y x k h
 
-greatest_fits : (x y : Float) → T (fits binary64 x) → T (fits binary64 y) → T (fits binary64 (greatest x y))
+pub greatest_fits : (x y : Float) → T (fits binary64 x) → T (fits binary64 y) → T (fits binary64 (greatest x y))
 unfolding greatest
 greatest_fits x y h k = cond-fits binary64 (lt y x) x y h k
 
@@ -136,49 +136,50 @@ module _ (op : Float → Float → Float) (exact : Fraction → Fraction → Fra
     is_real : T (le (op x y) (op x y))
     is_real = real binary64 (op x y) (exact (value x) (value y)) K
 
-  pub corners_in_order : T (le (lowest op r s) (highest op r s))
-  corners_in_order =
-      let i = least_is (op r.lower s.lower) (op r.lower s.upper) (is_real r.lower s.lower R.low_low) (is_real r.lower s.upper R.low_high) in
-      let j = least_is (op r.upper s.lower) (op r.upper s.upper) (is_real r.upper s.lower R.high_low) (is_real r.upper s.upper R.high_high) in
-      let k = greatest_is (op r.lower s.lower) (op r.lower s.upper) (is_real r.lower s.lower R.low_low) (is_real r.lower s.upper R.low_high) in
-      let l = greatest_is (op r.upper s.lower) (op r.upper s.upper) (is_real r.upper s.lower R.high_low) (is_real r.upper s.upper R.high_high) in
-      le_trans _ _ _ (least_is _ _ i.2 j.2).0 (le_trans _ _ _ i.0 (le_trans _ _ _ k.0 (greatest_is _ _ k.2 l.2).0))
-
-  pub low_corners : T (finite (before (lowest op r s))) → AtEnds (λ x y. value (before (lowest op r s)) ≼ exact (value x) (value y)) r s
-  low_corners p =
+  pub lowest_under : AtEnds (λ x y. T (le (lowest op r s) (op x y))) r s
+  lowest_under =
       let i = least_is (op r.lower s.lower) (op r.lower s.upper) (is_real r.lower s.lower R.low_low) (is_real r.lower s.upper R.low_high) in
       let j = least_is (op r.upper s.lower) (op r.upper s.upper) (is_real r.upper s.lower R.high_low) (is_real r.upper s.upper R.high_high) in
       let k = least_is _ _ i.2 j.2 in
-      record {
-        low_low = under r.lower s.lower R.low_low (le_trans _ _ _ k.0 i.0);
-        low_high = under r.lower s.upper R.low_high (le_trans _ _ _ k.0 i.1);
-        high_low = under r.upper s.lower R.high_low (le_trans _ _ _ k.1 j.0);
-        high_high = under r.upper s.upper R.high_high (le_trans _ _ _ k.1 j.1);
-      }
-    where
-      F : T (fits binary64 (lowest op r s))
-      F = least_fits _ _ (least_fits _ _ (double r.lower s.lower) (double r.lower s.upper)) (least_fits _ _ (double r.upper s.lower) (double r.upper s.upper))
+      record { low_low = le_trans _ _ _ k.0 i.0; low_high = le_trans _ _ _ k.0 i.1; high_low = le_trans _ _ _ k.1 j.0; high_high = le_trans _ _ _ k.1 j.1 }
 
-      under : (x y : Float) → Rounds binary64 (op x y) (exact (value x) (value y)) → T (le (lowest op r s) (op x y)) → value (before (lowest op r s)) ≼ exact (value x) (value y)
-      under x y K h = low_bound (lowest op r s) F (op x y) (exact (value x) (value y)) K h p
-
-  pub high_corners : T (finite (after (highest op r s))) → AtEnds (λ x y. exact (value x) (value y) ≼ value (after (highest op r s))) r s
-  high_corners p =
+  pub highest_over : AtEnds (λ x y. T (le (op x y) (highest op r s))) r s
+  highest_over =
       let i = greatest_is (op r.lower s.lower) (op r.lower s.upper) (is_real r.lower s.lower R.low_low) (is_real r.lower s.upper R.low_high) in
       let j = greatest_is (op r.upper s.lower) (op r.upper s.upper) (is_real r.upper s.lower R.high_low) (is_real r.upper s.upper R.high_high) in
       let k = greatest_is _ _ i.2 j.2 in
-      record {
-        low_low = over r.lower s.lower R.low_low (le_trans _ _ _ i.0 k.0);
-        low_high = over r.lower s.upper R.low_high (le_trans _ _ _ i.1 k.0);
-        high_low = over r.upper s.lower R.high_low (le_trans _ _ _ j.0 k.1);
-        high_high = over r.upper s.upper R.high_high (le_trans _ _ _ j.1 k.1);
-      }
-    where
-      F : T (fits binary64 (highest op r s))
-      F = greatest_fits _ _ (greatest_fits _ _ (double r.lower s.lower) (double r.lower s.upper)) (greatest_fits _ _ (double r.upper s.lower) (double r.upper s.upper))
+      record { low_low = le_trans _ _ _ i.0 k.0; low_high = le_trans _ _ _ i.1 k.0; high_low = le_trans _ _ _ j.0 k.1; high_high = le_trans _ _ _ j.1 k.1 }
 
+  pub corners_in_order : T (le (lowest op r s) (highest op r s))
+  corners_in_order = le_trans _ _ _ lowest_under.low_low highest_over.low_low
+
+  pub lowest_fits : T (fits binary64 (lowest op r s))
+  lowest_fits = least_fits _ _ (least_fits _ _ (double r.lower s.lower) (double r.lower s.upper)) (least_fits _ _ (double r.upper s.lower) (double r.upper s.upper))
+
+  pub highest_fits : T (fits binary64 (highest op r s))
+  highest_fits = greatest_fits _ _ (greatest_fits _ _ (double r.lower s.lower) (double r.lower s.upper)) (greatest_fits _ _ (double r.upper s.lower) (double r.upper s.upper))
+
+  pub low_corners : T (finite (before (lowest op r s))) → AtEnds (λ x y. value (before (lowest op r s)) ≼ exact (value x) (value y)) r s
+  low_corners p = record {
+    low_low = under r.lower s.lower R.low_low lowest_under.low_low;
+    low_high = under r.lower s.upper R.low_high lowest_under.low_high;
+    high_low = under r.upper s.lower R.high_low lowest_under.high_low;
+    high_high = under r.upper s.upper R.high_high lowest_under.high_high;
+  }
+    where
+      under : (x y : Float) → Rounds binary64 (op x y) (exact (value x) (value y)) → T (le (lowest op r s) (op x y)) → value (before (lowest op r s)) ≼ exact (value x) (value y)
+      under x y K h = low_bound (lowest op r s) lowest_fits (op x y) (exact (value x) (value y)) K h p
+
+  pub high_corners : T (finite (after (highest op r s))) → AtEnds (λ x y. exact (value x) (value y) ≼ value (after (highest op r s))) r s
+  high_corners p = record {
+    low_low = over r.lower s.lower R.low_low highest_over.low_low;
+    low_high = over r.lower s.upper R.low_high highest_over.low_high;
+    high_low = over r.upper s.lower R.high_low highest_over.high_low;
+    high_high = over r.upper s.upper R.high_high highest_over.high_high;
+  }
+    where
       over : (x y : Float) → Rounds binary64 (op x y) (exact (value x) (value y)) → T (le (op x y) (highest op r s)) → exact (value x) (value y) ≼ value (after (highest op r s))
-      over x y K h = high_bound (highest op r s) F (op x y) (exact (value x) (value y)) K h p
+      over x y K h = high_bound (highest op r s) highest_fits (op x y) (exact (value x) (value y)) K h p
 
 -- ---- sums, products and quotients of what lies in two ranges
 pub product_ends : (r s : Range) → Ok r → Ok s → AtEnds (λ x y. Rounds binary64 (mul binary64 x y) (value x ⊗ value y)) r s

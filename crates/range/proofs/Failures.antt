@@ -1,15 +1,17 @@
 -- No operation loses a failed range: where a result has ends, its operands have.
+use Prim.Native.Nat.{ℕ, zero, suc}
 use mathlib.Core.Logic.{◌⊎◌, inl, inr}
-use mathlib.Core.Bool.{Bool, true, false, cond}
-use lib.Dec.{T}
+use mathlib.Core.Bool.{Bool, true, false, cond, ◌||◌}
+use lib.Dec.{T, eqb}
 use lib.IntN.{ℤ}
 use lib.Ieee as Ieee
 use lib.Ieee.Fits.{and_i}
 use lib.Ieee.Scale.{finite}
 use Rattle.arithmetic.specs.Basic.{Limit, Step, passes}
 use Rattle.arithmetic.specs.Value.{value}
+use Rattle.arithmetic.specs.Arithmetic.{power_by, product_power}
 use Rattle.arithmetic.specs.Failures.{KeepsFailure, KeepsFailures}
-use Rattle.arithmetic.proofs.Failures.{failures_kept}
+use Rattle.arithmetic.proofs.Failures.{failures_kept, product_power_kept}
 use Rattle.range.specs.declared.basic.Range.{Range}
 use Rattle.range.specs.Rules.{failed, ok, agreed, ranges, rules}
 use Rattle.range.specs.Rules as Rules
@@ -27,7 +29,7 @@ add_kept : (r s : Range) → T (ok (Rules.add r s)) → T (ok r) × T (ok s)
 unfolding Rules.add
 add_kept r s h = given₂ (ok r) (ok s) _ h
 
-mul_kept : (r s : Range) → T (ok (Rules.mul r s)) → T (ok r) × T (ok s)
+pub mul_kept : (r s : Range) → T (ok (Rules.mul r s)) → T (ok r) × T (ok s)
 unfolding Rules.mul
 mul_kept r s h = given₂ (ok r) (ok s) _ h
 
@@ -69,5 +71,27 @@ rules_keep = record {
   step = step_kept;
 }
 
+-- ---- squares and fourth powers
+pub magnitudes_kept : (r : Range) → T (ok (Rules.magnitudes r)) → T (ok r)
+unfolding Rules.magnitudes
+magnitudes_kept r h = (given (ok r) _ h).0
+
+pub mul_magnitudes_kept : (r s : Range) → T (ok (Rules.mul_magnitudes r s)) → T (ok r) × T (ok s)
+unfolding Rules.mul_magnitudes
+mul_magnitudes_kept r s h = given₂ (ok r) (ok s) _ h
+
+pub even_power_kept : (r : Range) (k : ℕ) → T (ok (Rules.even_power r (suc k))) → T (ok r)
+unfolding Rules.even_power power_by
+even_power_kept r zero h = magnitudes_kept r h
+even_power_kept r (suc k) h = magnitudes_kept r (mul_magnitudes_kept _ (Rules.magnitudes r) h).1
+
+powi_kept : (r : Range) (k : ℕ) → T (ok (Rules.powi r (suc k))) → T (ok r)
+unfolding Rules.powi
+powi_kept r k h = go (eqb (suc k) 2 || eqb (suc k) 4) h
+  where
+    go : (b : Bool) → T (ok (cond b (Rules.even_power r (suc k)) (product_power rules r (suc k)))) → T (ok r)
+    go true h = even_power_kept r k h
+    go false h = product_power_kept rules (λ (s : Range). T (ok s)) rules_keep r k h
+
 pub ranges_keep_failures : KeepsFailures ranges (λ (r : Range). T (ok r))
-ranges_keep_failures = failures_kept rules (λ (r : Range). T (ok r)) rules_keep Rules.sqrt sqrt_kept
+ranges_keep_failures = failures_kept rules (λ (r : Range). T (ok r)) rules_keep Rules.powi powi_kept Rules.sqrt sqrt_kept

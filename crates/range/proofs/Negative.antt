@@ -50,16 +50,11 @@ unlike_not true false = refl
 unlike_not false true = refl
 unlike_not false false = refl
 
-mul_neg : (x y : Float) → T (finite x) → T (finite y) → Ieee.mul binary64 x (neg y) ≡ neg (Ieee.mul binary64 x y)
-unfolding Ieee.mul neg
-mul_neg nan y p q = absurd p
-mul_neg (inf s) y p q = absurd p
-mul_neg (fin s m e) nan p q = absurd q
-mul_neg (fin s m e) (inf t) p q = absurd q
-mul_neg (fin s m e) (fin t n d) p q =
-    let a = m * up e * (n * up d) in
-    let b = down e * down d in
-    ap (λ (z : Bool). round binary64 z a b) (unlike_not s t) ∙ round_neg binary64 (unlike s t) a b
+not_unlike : (s t : Bool) → unlike (not s) t ≡ not (unlike s t)
+not_unlike true true = refl
+not_unlike true false = refl
+not_unlike false true = refl
+not_unlike false false = refl
 
 pub neg_neg : (x : Float) → neg (neg x) ≡ x
 unfolding neg
@@ -68,6 +63,35 @@ neg_neg (inf true) = refl
 neg_neg (inf false) = refl
 neg_neg (fin true m e) = refl
 neg_neg (fin false m e) = refl
+
+-- a product with an infinity
+infinite_neg : (b s : Bool) → cond b nan (inf (not s)) ≡ neg (cond b nan (inf s))
+unfolding neg
+infinite_neg true s = refl
+infinite_neg false s = refl
+
+pub mul_neg : (x y : Float) → Ieee.mul binary64 x (neg y) ≡ neg (Ieee.mul binary64 x y)
+unfolding Ieee.mul neg
+mul_neg nan y = refl
+mul_neg (inf s) nan = refl
+mul_neg (inf s) (inf t) = ap inf (unlike_not s t)
+mul_neg (inf s) (fin t n d) = rw (unlike_not s t) (infinite_neg (eqb n 0) (unlike s t))
+mul_neg (fin s m e) nan = refl
+mul_neg (fin s m e) (inf t) = rw (unlike_not s t) (infinite_neg (eqb m 0) (unlike s t))
+mul_neg (fin s m e) (fin t n d) = rw (unlike_not s t) (round_neg binary64 (unlike s t) (m * up e * (n * up d)) (down e * down d))
+
+pub neg_mul : (x y : Float) → Ieee.mul binary64 (neg x) y ≡ neg (Ieee.mul binary64 x y)
+unfolding Ieee.mul neg
+neg_mul nan y = refl
+neg_mul (inf s) nan = refl
+neg_mul (inf s) (inf t) = ap inf (not_unlike s t)
+neg_mul (inf s) (fin t n d) = rw (not_unlike s t) (infinite_neg (eqb n 0) (unlike s t))
+neg_mul (fin s m e) nan = refl
+neg_mul (fin s m e) (inf t) = rw (not_unlike s t) (infinite_neg (eqb m 0) (unlike s t))
+neg_mul (fin s m e) (fin t n d) = rw (not_unlike s t) (round_neg binary64 (unlike s t) (m * up e * (n * up d)) (down e * down d))
+
+pub both_neg : (x y : Float) → Ieee.mul binary64 (neg x) (neg y) ≡ Ieee.mul binary64 x y
+both_neg x y = neg_mul x (neg y) ∙ ap neg (mul_neg x y) ∙ neg_neg (Ieee.mul binary64 x y)
 
 -- ---- its pattern and its neighbours
 fields_neg : (f : Format) (x t : ℕ) → of_fields f true x t ≡ neg (of_fields f false x t)
@@ -308,10 +332,10 @@ module _ (p w : Range) (t : Factors p w) (f : T (fits binary64 w.upper)) (h : T 
         is_true (finite (neg w.lower)) (finite_neg w.lower wl),
         no_zero p t.fits_r t.positive_r U,
         opposite_nonzero w.upper f (positive_value w.upper W (high w t.fits_s t.positive_s)),
-        mul_neg p.lower w.upper pl W,
-        mul_neg p.lower w.lower pl wl,
-        mul_neg p.upper w.upper U W,
-        mul_neg p.upper w.lower U wl,
+        mul_neg p.lower w.upper,
+        mul_neg p.lower w.lower,
+        mul_neg p.upper w.upper,
+        mul_neg p.upper w.lower,
         first_least _ _ (neg_le _ _ (first_row p w t U W)),
         first_least _ _ (neg_le _ _ (second_row p w t U W)),
         least_opposite lu uu (mul-fits binary64 p.lower w.upper) fits_uu lu_finite uu_finite lu_above (second_column p w t U W),
@@ -336,7 +360,7 @@ pub record StepTests (p w q : Range) (c : Float) : Type 0 where
   pub sum_in_order : T (le (Ieee.add binary64 (neg q.upper) c) (Ieee.add binary64 (neg q.lower) c))
   pub to_limit : T (lt (Ieee.add binary64 (neg q.lower) c) largest)
 
-and_false : (b : Bool) → (b && false) ≡ false
+pub and_false : (b : Bool) → (b && false) ≡ false
 and_false true = refl
 and_false false = refl
 

@@ -111,7 +111,7 @@ module _ (a b : Float) (r s : Range) (p q : Fraction) (A : Ok r) (B : Ok s) (x :
   quotient_certain true i K I O = rw (not_null (K tt)) (divided (K tt) i I O)
   quotient_certain false i K I O = absurd O
 
-is_apart : (s : Range) → Ok s → T (apart s) → Apart (value s.lower) (value s.upper)
+pub is_apart : (s : Range) → Ok s → T (apart s) → Apart (value s.lower) (value s.upper)
 is_apart s B = go (lt zero_d s.lower) (lt s.upper zero_d) (lt→≺ zero_d s.lower zero_number (lower_finite s B)) (lt→≺ s.upper zero_d (upper_finite s B) zero_number)
   where
     go : (i j : Bool) → (T i → value zero_d ≺ value s.lower) → (T j → value s.upper ≺ value zero_d) → T (i || j) → Apart (value s.lower) (value s.upper)

@@ -4,7 +4,7 @@ use mathlib.Core.Bool.{Bool, true, false, cond, ◌&&◌}
 use native.Mathlib.Omega.{arith}
 use lib.Dec.{T, eqb}
 use lib.IntN.{pos}
-use lib.Ieee.{Float, nan, inf, fin, binary64, fits, lt, le, eq}
+use lib.Ieee.{Float, nan, inf, fin, binary64, fits, lt, le, eq, unlike}
 use lib.Ieee as Ieee
 use lib.Ieee.Bits.{is_true, is_false}
 use lib.Ieee.Fits.{and_l, and_r}
@@ -119,12 +119,27 @@ factors_finite (fin true m e) (inf false) h k l = absurd h
 factors_finite (fin false m e) (inf false) h k l = absurd (infinite (eqb m 0) l)
 factors_finite (fin s m e) (fin t n d) h k l = (tt, tt)
 
+-- the factors of a finite product are finite
+no_number : (s b : Bool) → T (finite (cond b nan (inf s))) → ⊥
+no_number s true h = h
+no_number s false h = h
+
+pub factors_of : (x y : Float) → T (finite (Ieee.mul binary64 x y)) → T (finite x) × T (finite y)
+unfolding Ieee.mul
+factors_of nan y h = absurd h
+factors_of (inf s) nan h = absurd h
+factors_of (inf s) (inf t) h = absurd h
+factors_of (inf s) (fin t n d) h = absurd (no_number (unlike s t) (eqb n 0) h)
+factors_of (fin s m e) nan h = absurd h
+factors_of (fin s m e) (inf t) h = absurd (no_number (unlike s t) (eqb m 0) h)
+factors_of (fin s m e) (fin t n d) h = (tt, tt)
+
 -- ---- what the test says of a range with a finite upper end
 module _ (r : Range) (f : T (fits binary64 r.lower)) (h : positive r ≡ true) where
-  low : T (lt zero_d r.lower)
+  pub low : T (lt zero_d r.lower)
   low = and_l (lt zero_d r.lower) (le r.lower r.upper) (subst T (sym h) tt)
 
-  in_order : T (le r.lower r.upper)
+  pub in_order : T (le r.lower r.upper)
   in_order = and_r (lt zero_d r.lower) (le r.lower r.upper) (subst T (sym h) tt)
 
   pub high : T (lt zero_d r.upper)
@@ -140,14 +155,14 @@ module _ (r : Range) (f : T (fits binary64 r.lower)) (h : positive r ≡ true) w
     values : value r.lower ≼ value r.upper
     values = le→≼ r.lower r.upper lower_finite U in_order
 
-    has_ends : ok r ≡ true
+    pub has_ends : ok r ≡ true
     has_ends = ap₂ (λ (a b : Bool). a && b) (is_true (finite r.lower) lower_finite) (is_true (finite r.upper) U)
 
     pub no_zero : is_zero r ≡ false
     no_zero = ap (λ (b : Bool). b && eq r.upper zero_d) (above_nonzero r.lower f above)
 
 -- ---- the order of rounded products
-not_lt : (x y : Float) → T (le x y) → lt y x ≡ false
+pub not_lt : (x y : Float) → T (le x y) → lt y x ≡ false
 unfolding lt le
 not_lt nan y h = absurd h
 not_lt (inf s) nan h = absurd h
@@ -170,7 +185,7 @@ pub second_greatest : (x y : Float) → T (le x y) → greatest x y ≡ y
 unfolding greatest
 second_greatest x y h = rw (not_lt x y h)
 
-grows : (x x' y y' : Float) → T (finite x) → T (finite x') → T (finite y) → T (finite y') → null ≼ value x → null ≼ value y' → value x ≼ value x' → value y ≼ value y' → T (le (Ieee.mul binary64 x y) (Ieee.mul binary64 x' y'))
+pub grows : (x x' y y' : Float) → T (finite x) → T (finite x') → T (finite y) → T (finite y') → null ≼ value x → null ≼ value y' → value x ≼ value x' → value y ≼ value y' → T (le (Ieee.mul binary64 x y) (Ieee.mul binary64 x' y'))
 grows x x' y y' p p' q q' z w h k =
     rw (mul_is binary64 x y p q, mul_is binary64 x' y' p' q')
     (rounded_mono binary64 _ _ (value x ⊗ value y) (value x' ⊗ value y') (≼_trans (⊗-mono z k) (≼_trans (⊗-swap (value x) (value y')) (≼_trans (⊗-mono w h) (⊗-swap (value y') (value x'))))))

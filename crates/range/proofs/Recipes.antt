@@ -4,7 +4,7 @@ use mathlib.Core.Option.{Option}
 use lib.Ieee.{Float}
 use Rattle.arithmetic.specs.Fraction.{Fraction}
 use Rattle.arithmetic.specs.Basic.{Basic}
-use Rattle.arithmetic.specs.Arithmetic.{sum_by, power_by}
+use Rattle.arithmetic.specs.Arithmetic.{sum_by, power_by, product_power}
 use Rattle.arithmetic.specs.Constants.{zero_d, one}
 use Rattle.arithmetic.specs.Recipes as R
 use Rattle.arithmetic.specs.Doubles.{strict}
@@ -80,12 +80,11 @@ module _ {d : Float} {r : Range} {o : Option Fraction} (h : Contained d r o) whe
   powf_contained {d'} {r'} {o'} k = powf_kept strict paired Contains kept {x = pair r o} {y = pair r' o'} h k
 
 -- ---- powers and sums
-pub powi_contained : {d : Float} {r : Range} {o : Option Fraction} (n : ℕ) → Contained d r o
-    → Contained (power_by (strict.constant one) strict.mul d n) (power_by (rules.constant one) rules.mul r n) (power_by (fractions.constant one) fractions.mul o n)
+pub product_power_contained : {d : Float} {r : Range} {o : Option Fraction} (n : ℕ) → Contained d r o → Contained (product_power strict d n) (product_power rules r n) (product_power fractions o n)
 unfolding power_by
-powi_contained zero h = constant_contained one
-powi_contained (suc zero) h = h
-powi_contained (suc (suc n)) h = mul_contained (powi_contained (suc n) h) h
+product_power_contained zero h = constant_contained one
+product_power_contained (suc zero) h = h
+product_power_contained (suc (suc n)) h = mul_contained (product_power_contained (suc n) h) h
 
 pub sum_contained : {d : ℕ → Float} {r : ℕ → Range} {o : ℕ → Option Fraction} (n : ℕ) → ((i : ℕ) → Contained (d i) (r i) (o i))
     → Contained (sum_by (strict.constant zero_d) strict.add n d) (sum_by (rules.constant zero_d) rules.add n r) (sum_by (fractions.constant zero_d) fractions.add n o)

@@ -46,10 +46,17 @@ zeros : (ranges.constant (neg zero_d) ≡ zero) × (ranges.neg (range zero_d one
 unfolding Rules.point Rules.neg Rules.mul next_up next_down to_bits of_bits round fits neg mul lt eq le
 zeros = (refl, refl, refl, refl)
 
--- ---- powers: with no factor it is 1, with one it is the range itself, with two its ends move once
-powers : (ranges.powi (range two two) 0 ≡ range one one) × (ranges.powi (range two two) 1 ≡ range two two) × (ranges.powi (range two two) 2 ≡ range (bits 0x400FFFFFFFFFFFFF) (bits 0x4010000000000001))
-unfolding power_by Rules.point Rules.mul next_up next_down to_bits of_bits round fits mul lt eq le
+-- ---- powers: with no factor it is 1, with one it is the range itself, with three its ends move twice
+powers : (ranges.powi (range two two) 0 ≡ range one one) × (ranges.powi (range two two) 1 ≡ range two two) × (ranges.powi (range two two) 3 ≡ range (bits 0x401FFFFFFFFFFFFE) (bits 0x4020000000000002))
+unfolding Rules.powi power_by Rules.point Rules.mul next_up next_down to_bits of_bits round fits mul lt eq le
 powers = (refl, refl, refl)
+
+-- ---- squares: [0,0] stays; from 0 where 0 is held; signs dropped; never below 0, where the square of 2^−1074 is rounded to 0; and the fourth power of [−2,1]
+squares : (ranges.powi zero 2 ≡ zero) × (ranges.powi (range minus_one two) 2 ≡ range zero_d (bits 0x4010000000000001)) × (ranges.powi (range zero_d one) 2 ≡ range zero_d (bits 0x3FF0000000000001))
+    × (ranges.powi (range (neg (nearest 3 1)) (neg two)) 2 ≡ range (bits 0x400FFFFFFFFFFFFF) (bits 0x4022000000000001)) × (ranges.powi (range (bits 1) (bits 1)) 2 ≡ range zero_d (bits 1))
+    × (ranges.powi (range one two) 4 ≡ range (bits 0x3FEFFFFFFFFFFFFD) (bits 0x4030000000000003)) × (ranges.powi (range (neg two) one) 4 ≡ range zero_d (bits 0x4030000000000003))
+unfolding Rules.powi Rules.even_power Rules.mul_magnitudes Rules.magnitudes power_by Rules.point Rules.mul next_up next_down to_bits of_bits round fits neg mul lt eq le
+squares = (refl, refl, refl, refl, refl, refl, refl)
 
 -- ---- scaling is exact; where a bit is lost, as of 3 × 2^−1074 by 2^−1, the ends move outwards
 scaling : (rules.scale (range (bits 2) (bits 2)) (negsuc 0) ≡ range (bits 1) (bits 1)) × (rules.scale (range (bits 3) (bits 3)) (negsuc 0) ≡ range (bits 1) (bits 3))

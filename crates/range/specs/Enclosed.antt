@@ -2,7 +2,7 @@
 use Rattle.std.specs.Prelude.{◌≡◌, T, Float}
 use Rattle.std.proofs.Math.Option.{Option, some}
 use Rattle.std.specs.Float.Ieee.Scale as Scale
-use Rattle.arithmetic.specs.Fraction.{Fraction}
+use Rattle.arithmetic.specs.Fraction.{Fraction, ◌≼◌}
 use Rattle.arithmetic.specs.Value.{value, Within}
 use Rattle.range.specs.declared.basic.Range.{Range}
 use Rattle.range.specs.Rules.{ok}
@@ -21,3 +21,9 @@ pub record Enclosed (d : Float) (x : Reading) : Type 0 where
   pub finite : T (Scale.finite d)
   pub between : Within x.range.lower x.range.upper (value d)
   pub reads : (c : Choices) → Result x.range (x.at c)
+
+-- new has ends, and they lie within those of old
+pub record Inside (old new : Range) : Type 0 where
+  pub has_ends : Ok new
+  pub lower : value old.lower ≼ value new.lower
+  pub upper : value new.upper ≼ value old.upper

@@ -5,11 +5,11 @@ use Rattle.arithmetic.specs.Fraction.{Fraction, null, ◌⊕◌, opp, ◌⊗◌,
 use Rattle.arithmetic.specs.Fraction as Fraction
 use Rattle.arithmetic.specs.Value.{value}
 use Rattle.arithmetic.specs.Basic.{Basic, below, passes, pick}
-use Rattle.arithmetic.specs.Arithmetic.{Arithmetic, sum_by, power_by}
-use Rattle.arithmetic.specs.Constants.{zero_d, one}
+use Rattle.arithmetic.specs.Arithmetic.{Arithmetic, sum_by, product_power}
+use Rattle.arithmetic.specs.Constants.{zero_d}
 use Rattle.arithmetic.specs.Recipes as Recipes
 use Rattle.range.specs.declared.basic.Range.{Range}
-use Rattle.range.specs.Rules.{ok, rules, sqrt}
+use Rattle.range.specs.Rules.{ok, rules, powi, sqrt}
 
 -- ---- fractions, where there is a result
 abbrev pub bind : {X Y : Type 0} → Option X → (X → Option Y) → Option Y
@@ -76,7 +76,7 @@ exact = record {
   sub = lift₂ rules.sub fractions.sub;
   mul = lift₂ rules.mul fractions.mul;
   div = lift₂ rules.div fractions.div;
-  powi = λ x n. lift (λ r. power_by (rules.constant one) rules.mul r n) (λ q. power_by (fractions.constant one) fractions.mul q n) x;
+  powi = λ x n. lift (λ r. powi r n) (λ q. product_power fractions q n) x;
   sqrt = λ x. record { range = sqrt x.range; at = λ c. root_by x.range (x.at (part 0 c)) (c []) };
   ln = lift (Recipes.ln rules) (Recipes.ln fractions);
   ln1p = lift (Recipes.ln1p rules) (Recipes.ln1p fractions);

@@ -1,5 +1,5 @@
 -- Document 01's "Rules for ranges", as a meaning of the operations. A rule that fails gives the failed range, whose ends are NaN; so does every rule of a failed range.
-use Rattle.std.specs.Prelude.{Bool, true, false, cond, ◌&&◌, ◌||◌, ℤ, pos, negsuc, eqb, Float}
+use Rattle.std.specs.Prelude.{ℕ, Bool, true, false, cond, ◌&&◌, ◌||◌, ℤ, pos, negsuc, eqb, Float}
 use Rattle.std.proofs.Math.Option.{Option, none, some}
 use Rattle.std.specs.Float.{nan, fin, binary64}
 use Rattle.std.specs.Float.Ieee.{fits, lt, eq, of_int, in_float}
@@ -8,9 +8,9 @@ use Rattle.std.specs.Float.Ieee.Scale.{finite}
 use Rattle.arithmetic.specs.Value.{value}
 use Rattle.arithmetic.specs.Next.{next_up, next_down}
 use Rattle.arithmetic.specs.Root as Root
-use Rattle.arithmetic.specs.Constants.{zero_d}
+use Rattle.arithmetic.specs.Constants.{zero_d, one}
 use Rattle.arithmetic.specs.Basic.{Basic, Limit, Step, passes, pick}
-use Rattle.arithmetic.specs.Arithmetic.{Arithmetic, over}
+use Rattle.arithmetic.specs.Arithmetic.{Arithmetic, over, power_by, product_power}
 use Rattle.arithmetic.specs.Doubles.{where_finite, scaled}
 use Rattle.range.specs.declared.basic.Range.{Range}
 
@@ -157,5 +157,33 @@ rules = record {
   step = step;
 }
 
+-- ---- squares and fourth powers
+-- with its sign dropped
+unfoldable pub magnitude : Float → Float
+magnitude x = cond (lt x zero_d) (Ieee.neg x) x
+
+-- The range of the magnitudes: from the lesser of the two ends' to the greater, and from 0 where 0 is held.
+unfoldable pub magnitudes : Range → Range
+unfolding magnitude least greatest
+magnitudes r =
+    let m = magnitude r.lower in
+    let n = magnitude r.upper in
+    given r (range (cond (apart r) (least m n) zero_d) (greatest m n))
+
+unfoldable pub not_below_zero : Float → Float
+not_below_zero x = cond (lt x zero_d) zero_d x
+
+-- The product of magnitudes: the lower end from the lower ends and never below 0, the upper from the upper ones.
+unfoldable pub mul_magnitudes : Range → Range → Range
+unfolding ends not_below_zero
+mul_magnitudes r s = given₂ r s (cond (is_zero r) zero (ends (not_below_zero (before (Ieee.mul binary64 r.lower s.lower))) (after (Ieee.mul binary64 r.upper s.upper))))
+
+unfoldable pub even_power : Range → ℕ → Range
+even_power r n = power_by (point one) mul_magnitudes (magnitudes r) n
+
+-- These two powers have a rule of their own; any other is a product.
+unfoldable pub powi : Range → ℕ → Range
+powi r n = cond (eqb n 2 || eqb n 4) (even_power r n) (product_power rules r n)
+
 abbrev pub ranges : Arithmetic Range
-ranges = over rules sqrt
+ranges = over rules powi sqrt

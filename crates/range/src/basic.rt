@@ -110,6 +110,20 @@ fn greatest(x: f64, y: f64) -> f64
     if y < x { x } else { y }
 }
 
+#[tactic(auto, unfolding(crate::specs::Rules::magnitude))]
+fn magnitude(x: f64) -> f64
+    ensures { result ≡ Rules.magnitude x }
+{
+    if x < 0.0 { -x } else { x }
+}
+
+#[tactic(auto, unfolding(crate::specs::Rules::not_below_zero))]
+fn not_below_zero(x: f64) -> f64
+    ensures { result ≡ Rules.not_below_zero x }
+{
+    if x < 0.0 { 0.0 } else { x }
+}
+
 impl Range {
     pub const ZERO: Range = Range {
         lower: 0.0,
@@ -142,12 +156,39 @@ impl Range {
         self.lower > 0.0 || self.upper < 0.0
     }
 
-    // self * self * .. from the left, k factors; with none it is 1.
-    #[tactic(auto, using(crate::proofs::Constants::one_constant))]
+    // The range of the magnitudes; one above 0, as most are, is its own.
+    #[tactic(auto, unfolding(crate::specs::Rules::magnitudes), using(crate::proofs::PositiveMagnitudes::own_magnitudes))]
+    fn magnitudes(self) -> Range
+        ensures { result ≡ Rules.magnitudes self }
+    {
+        if self.is_positive() && is_finite(self.upper) {
+            return self;
+        }
+        if !self.is_ok() {
+            return failed();
+        }
+        let l = magnitude(self.lower);
+        let u = magnitude(self.upper);
+        Range {
+            lower: if self.is_apart() { least(l, u) } else { 0.0 },
+            upper: greatest(l, u),
+        }
+    }
+
+    // Squares and fourth powers by their own rule; any other power is self * self * .. from the left, k factors; with none it is 1.
+    #[tactic(auto, unfolding(crate::specs::Rules::powi, crate::specs::Rules::even_power, arithmetic::specs::Arithmetic::power_by), using(crate::proofs::Constants::one_constant))]
     pub fn powi(self, k: u64) -> Range
         ensures { result ≡ ranges.powi self k }
     {
-        power(Range::ONE, self, k)
+        if k != 2 && k != 4 {
+            return power(Range::ONE, self, k);
+        }
+        let m = self.magnitudes();
+        let square = mul_magnitudes(m, m);
+        if k == 2 {
+            return square;
+        }
+        mul_magnitudes(mul_magnitudes(square, m), m)
     }
 
     #[tactic(auto, unfolding(crate::specs::Rules::sqrt))]
@@ -302,6 +343,25 @@ pub fn product_of(r: Range, s: Range) -> Range
         return Range::ZERO;
     }
     four(|a, b| a * b, r, s)
+}
+
+// The product of magnitudes: the lower end from the lower ends and never below 0, the upper from the upper ones.
+#[tactic(auto, unfolding(crate::specs::Rules::mul_magnitudes), using(crate::proofs::PositiveMagnitudes::positive_magnitudes))]
+fn mul_magnitudes(a: Range, b: Range) -> Range
+    ensures { result ≡ Rules.mul_magnitudes a b }
+{
+    let l = a.lower * b.lower;
+    let u = a.upper * b.upper;
+    if l > 0.0 && l <= u && u < LARGEST {
+        return neighbours(l, u);
+    }
+    if !a.is_ok() || !b.is_ok() {
+        return failed();
+    }
+    if a == Range::ZERO {
+        return Range::ZERO;
+    }
+    ends(not_below_zero(next_down(l)), next_up(u))
 }
 
 // One case for both ends: a where both have it, b where neither has.
