@@ -1,5 +1,7 @@
 // uvtheory/eos/wca/attractive_perturbation_uvb3.rs: the attractive perturbation of WCA-B3.
 ghost use Rattle.std.specs.Prelude.{◌≡◌, ◌<◌};
+ghost use Rattle.arithmetic.specs.Arithmetic.{power_by};
+ghost use Rattle.arithmetic.specs.Constants.{one};
 ghost use Rattle.uvtheory.specs.Rows.{doubles, Matrix};
 ghost use Rattle.uvtheory.specs.Inputs.{parameters, state_of};
 ghost use Rattle.uvtheory.specs.Wca.HardSphere.{diameter_wca};
@@ -90,16 +92,27 @@ fn coefficient_rsap<D: DualNum>(c: &[f64; 4], r1: D, r2: D, r3: D) -> D
     r1 * D::from(c[1]) + r2 * D::from(c[2]) + r3 * D::from(c[3]) + D::from(c[0])
 }
 
-// Each power of beta is the one before it times beta.
-#[tactic(auto, unfolding(uvtheory::specs::Wca::AttractivePerturbationUvb3::sum_beta, num_dual::specs::Powers::PowersFromLeft))]
+// The power of v, where its product from the left is at hand.
+#[tactic(auto, unfolding(num_dual::specs::Powers::PowersFromLeft))]
+fn power_from<D: DualNum>(v: D, k: u64, product: D) -> D
+    requires { product ≡ power_by (D.arithmetic.constant one) D.arithmetic.mul v k }
+    ensures { result ≡ D.arithmetic.powi v k }
+{
+    if k == 2 || k == 4 { v.powi(k) } else { product }
+}
+
+// Each product is the one before it times beta.
+#[tactic(auto, unfolding(uvtheory::specs::Wca::AttractivePerturbationUvb3::sum_beta), using(arithmetic::proofs::Repeated::longer_power, arithmetic::proofs::Repeated::single_factor))]
 fn sum_beta<D: DualNum>(beta: D) -> D
     ensures { result ≡ F.sum_beta D.arithmetic 14 beta }
 {
     let mut sum = beta;
-    let mut power = beta;
+    let mut product = beta;
     for m in 0..14 {
-        power = power * beta;
-        sum = sum + power / (D::from(FACTORIALS[m]) * D::from(WHOLES[m]));
+        product = product * beta;
+        sum = sum
+            + power_from(beta, m as u64 + 2, product)
+                / (D::from(FACTORIALS[m]) * D::from(WHOLES[m]));
     }
     sum
 }

@@ -1,4 +1,5 @@
 use Rattle.std.proofs.Common.{refl}
+use Rattle.num_dual.specs.Powers.{first_power}
 use Rattle.uvtheory.specs.Rows.{missing, row}
 use Rattle.uvtheory.specs.Inputs.{parameters}
 use Rattle.uvtheory.proofs.Loops.{adds}
@@ -27,5 +28,5 @@ returns g c =
       c.pair_mean.ensures,
       c.pair_mean-2.ensures,
       c.pair_mean-weighted_sigma3_ij.ensures,
-      number.powi_one,
+      first_power A number.powi_is,
     ) (rw rows.sigma_are fluid))
