@@ -1,4 +1,5 @@
-# Document 01's "Rules for ranges", in whole numbers: written from its text, with no float and nothing of the crates. measure/ranges.py compares.
+# Document 01's "Rules for ranges", with M-103's rule for powi of 2 and 4, in whole numbers: written from the text, with no float and nothing of the crates.
+# measure/ranges.py compares.
 #
 # A double is its bit pattern. A finite double is a whole number of units of 2^-1074, so sums, products, quotients and roots
 # are worked exactly and rounded once, by `nearest` and `root`. A range is a pair of doubles, (lower, upper).
@@ -162,7 +163,22 @@ def div(r, s):
     return outwards(min(quotients), max(quotients))
 
 
+def even_power(r, k):
+    """M-103's rule for powi of 2 and 4: from the ends with signs dropped, by products that move outwards, but not below 0."""
+    lower, upper = given(r)
+    if (lower, upper) == (0, 0):
+        return ZERO
+    lesser, greater = sorted((abs(lower), abs(upper)))
+    low, high = lesser, greater
+    for _ in range(1, k):
+        low = max(0, units(next_down(double_of(nearest(low * lesser, ONE)))))
+        high = to_finite(units(next_up(double_of(nearest(high * greater, ONE)))))
+    return ends(0 if lower <= 0 <= upper else double_of(low), double_of(high))
+
+
 def powi(r, k):
+    if k in (2, 4):
+        return even_power(r, k)
     if k == 0:
         return point(ONE)
     power = r

@@ -1,7 +1,7 @@
 #!/usr/bin/env python3
 """Compares every compiled operation of ranges, bit for bit, with document 01's rules in whole numbers (range_rules.py).
 
-measure/ranges.py          345,160 operand pairs for each basic operation, 50,760 for each elementary function (772 more for powf)
+measure/ranges.py          345,160 operand pairs for each basic operation (2,278 more for powi), 50,760 for each elementary function (772 more for powf)
 measure/ranges.py --quick  12,000 and 2,500
 measure/ranges.py --slips  makes the slips of range_slips.txt in the rules, one at a time; the quick comparison must see each
 
@@ -12,6 +12,7 @@ import ctypes
 import random
 import struct
 import sys
+from itertools import combinations_with_replacement
 
 sys.dont_write_bytecode = True
 import comparison
@@ -67,6 +68,15 @@ LIMITS = [sign | double for double in limits() for sign in (0, SIGN)]
 EDGES = sorted({edge for x in LIMITS for edge in (next_down(x), x, next_up(x)) if is_finite(edge)})
 
 
+def small_and_large_powers():
+    """0, and the doubles at which a product of two to four of them comes to the least double, the least normal one or beyond the largest, in order."""
+    found = {0}
+    for e in (-538, -537, -511, -359, -358, -269, -268, -256, 256, 342, 512):
+        x = double_of(ONE << e if e >= 0 else ONE >> -e)
+        found |= {sign | near for near in (next_down(x), x, next_up(x)) for sign in (0, SIGN)}
+    return sorted(found, key=units)
+
+
 def moved(double, steps):
     """The double so many doubles above it, or below it where steps is negative; the largest is the last."""
     for _ in range(abs(steps)):
@@ -116,19 +126,27 @@ class Operands:
             return moved(a[which % 2], r.randrange(-1, 2))
         return r.choice((NAN, INFINITY, INFINITY | SIGN)) if which == 7 else self.end()
 
+    def exponent(self, name):
+        """Of powi half are 2 and 4, which have a rule of their own."""
+        r = self.random
+        return r.choice((2, 4)) if name == "powi" and r.getrandbits(1) else r.randrange(13)
+
     def of(self, name, crossed, count):
-        """Each edge as a point, and with the double above it; edges with edges, as two points or as the two ends of a range; powers of [1,1]; then by chance."""
+        """Each edge as a point, and with the double above it; edges with edges, as two points or as the two ends of a range; powers of small and large ranges
+        and of [1,1]; then by chance."""
         pairs = [(x, y) for x in EDGES for y in EDGES]
         if crossed < len(pairs):
             pairs = self.random.sample(pairs, crossed)
         first = [((x, moved(x, step)), self.range()) for x in EDGES for step in (0, 1)]
         first += [((x, x), (y, y)) if name in OF_TWO else ((x, y), self.range()) for x, y in pairs]
+        if name == "powi":
+            first += [(pair, self.range()) for pair in combinations_with_replacement(small_and_large_powers(), 2)]
         if name == "powf":  # powers of [1,1] have a shorter way, for exponents up to 1000
             one, thousand = double_of(ONE), double_of(1000 * ONE)
             ends = EDGES + [sign | moved(thousand, step) for sign in (0, SIGN) for step in (-1, 0, 1)]
             first += [((one, one), (x, moved(x, step))) for x in ends for step in (0, 1)]
         for a, b in first + [(self.range(), self.range()) for _ in range(count)]:
-            yield self.random.randrange(13), self.limit(a), a, b
+            yield self.exponent(name), self.limit(a), a, b
 
 
 # ---- the comparison

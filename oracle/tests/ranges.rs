@@ -70,12 +70,85 @@ fn an_end_of_zero_is_positive() {
 }
 
 #[test]
-fn powi_moves_the_ends_at_every_product() {
-    let v = point(3.0);
-    assert!(same(v.powi(0), Range::ONE));
-    assert!(same(v.powi(1), v));
-    assert!(same(v.powi(3), v * v * v));
-    assert!(range(-1.0, 1.0).powi(2).lower < 0.0);
+fn other_powers_than_2_and_4_are_products() {
+    for v in [point(3.0), range(-1.0, 2.0), range(-3.0, -2.0), range(0.0, 0.1), Range::ZERO] {
+        assert!(same(v.powi(0), Range::ONE));
+        assert!(same(v.powi(1), v));
+        assert!(same(v.powi(3), v * v * v));
+        assert!(same(v.powi(5), v * v * v * v * v));
+        assert!(same(v.powi(6), v * v * v * v * v * v));
+    }
+    let v = range(-1.0, 1.0);
+    assert!((v * v).lower < 0.0 && v.powi(6).lower < 0.0);
+}
+
+#[test]
+fn squares_go_by_magnitudes() {
+    let square = |lower, upper| range(lower, upper).powi(2);
+    let apart = range(4.0_f64.next_down(), 9.0_f64.next_up());
+    assert!(same(square(2.0, 3.0), apart));
+    assert!(same(square(-3.0, -2.0), apart));
+    let holds_zero = range(0.0, 9.0_f64.next_up());
+    for lower in [-3.0, -2.0, -SMALLEST, 0.0] {
+        assert!(same(square(lower, 3.0), holds_zero));
+        assert!(same(square(-3.0, -lower), holds_zero));
+    }
+    assert!(same(square(0.0, 0.0), Range::ZERO));
+    assert!(same(square(-0.0, -0.0), Range::ZERO));
+}
+
+/// (reduced density − 0.4)² of B3's u-fraction, at a reduced density of 0.4 but for rounding.
+#[test]
+fn the_square_of_a_bracket_around_zero_is_not_below_zero() {
+    let bracket = point(0.1) * point(4.0) - point(0.4);
+    assert!(bracket.lower < 0.0 && bracket.upper > 0.0);
+    assert!((bracket * bracket).lower < 0.0);
+    assert_eq!(bracket.powi(2).lower, 0.0);
+}
+
+#[test]
+fn squares_of_small_magnitudes_are_not_below_zero() {
+    assert!(same(point(SMALLEST).powi(2), range(0.0, SMALLEST)));
+    assert!(same(range(-SMALLEST, SMALLEST).powi(2), range(0.0, SMALLEST)));
+    // Its square is the smallest double, which moves down to 0.
+    let root = point(2f64.powi(-537));
+    assert!(same(root.powi(2), range(0.0, 2.0 * SMALLEST)));
+    assert!(same((-root).powi(2), root.powi(2)));
+    assert!(point(SMALLEST) * point(SMALLEST) == range(-SMALLEST, SMALLEST));
+}
+
+/// From the left, so not the square of the square.
+#[test]
+fn fourth_powers_move_the_ends_at_every_product() {
+    let fourth = |lower, upper| range(lower, upper).powi(4);
+    let below = |m: f64| (1..4).fold(m, |power, _| (power * m).next_down());
+    let above = |m: f64| (1..4).fold(m, |power, _| (power * m).next_up());
+    let apart = range(below(2.1), above(3.3));
+    assert!(same(fourth(2.1, 3.3), apart));
+    assert!(same(fourth(-3.3, -2.1), apart));
+    assert!(same(fourth(-2.1, 3.3), range(0.0, above(3.3))));
+    assert!(same(fourth(-3.3, 0.0), range(0.0, above(3.3))));
+    assert!(!same(range(2.1, 3.3).powi(2).powi(2), apart));
+    assert!(same(fourth(0.0, 0.0), Range::ZERO));
+    // The lower end is 0 after the first product and stays.
+    let small = point(1e-200);
+    assert!(same(small.powi(4), range(0.0, SMALLEST)));
+}
+
+/// The square and the fourth power of a double between the ends.
+#[test]
+fn even_powers_hold_the_double() {
+    let mut random = Random::new(3);
+    for _ in 0..20_000 {
+        let lower = random.between([-2.0, 1.0]);
+        let upper = random.between([lower, 2.0]);
+        let (v, around) = (random.between([lower, upper]), range(lower, upper));
+        for k in [2, 4] {
+            let (result, value) = (around.powi(k), Double::point(v).powi(k).value());
+            assert!(0.0 <= result.lower && result.lower <= value && value <= result.upper, "{v}");
+            assert_eq!(result.lower == 0.0, lower <= 0.0 && upper >= 0.0, "{v}");
+        }
+    }
 }
 
 #[test]
@@ -86,6 +159,9 @@ fn rules_that_fail() {
     assert_eq!(work(|| point(1.0) / range(-1.0, 1.0)), None);
     assert_eq!(work(|| Range::ZERO / range(0.0, 1.0)), None);
     assert_eq!(work(|| range(-SMALLEST, 1.0).sqrt()), None);
+    assert_eq!(work(|| point(2f64.powi(512)).powi(2)), None);
+    assert_eq!(work(|| range(-2f64.powi(512), 1.0).powi(2)), None);
+    assert_eq!(work(|| range(0.0, 2f64.powi(256)).powi(4)), None);
     assert_eq!(work(|| range(0.0, 1.0).ln()), None);
     assert_eq!(work(|| Range::ZERO.powf(Range::ZERO)), None);
     assert_eq!(work(|| range(0.0, 1.0).powf(Range::ONE)), None);
@@ -110,6 +186,8 @@ fn one_case_at_its_limit() {
     assert!(work(|| range(0.75, 1.5_f64.next_down()).ln()).is_some());
     assert!(work(|| range(-0.25, 0.25).ln_1p()).is_some());
     assert!(work(|| point(0.25_f64.next_up()).ln_1p()).is_some());
+    let largest = point(2f64.powi(512).next_down()).powi(2);
+    assert_eq!(largest.upper, f64::MAX);
     assert!(work(|| point(700.0).exp()).is_some());
     assert!(work(|| point(-700.0).exp()).is_some());
     assert_eq!(work(|| point((-700.0_f64).next_down()).exp()), Some(Range::ZERO));

@@ -53,6 +53,23 @@ fn nothing_is_found_on_a_record_with_ends() {
     }
 }
 
+/// B3 at a reduced density of 0.4: the bracket that its u-fraction squares holds 0.
+#[test]
+fn nothing_is_found_where_a_bracket_holds_zero() {
+    for density in [0.4, 0.4_f64.next_up(), 0.4_f64.next_down()] {
+        let case = Case {
+            substances: vec![[12.65, 6.0, 1.0, 153.5]],
+            pairs: vec![],
+            partial_density: vec![density],
+            molefracs: vec![1.0],
+            ..argon_and_methane(2)
+        };
+        for (name, roots) in POLICIES {
+            assert_eq!(findings(&case, &answers(&case), roots), [], "{name}");
+        }
+    }
+}
+
 /// The ranges that a reading carries are those of the ends, whatever its roots are.
 #[test]
 fn the_ranges_beside_a_reading_are_the_ends() {
@@ -92,9 +109,30 @@ fn exact_values_of_the_recipes() {
     equals(Reading::tanh, 0.0, 0.0);
     equals(Reading::tanh, 20.0_f64.next_up(), 1.0);
     equals(|v| v.powf(point(1.2187)), 0.0, 0.0);
-    equals(|v| v.powi(3), 3.0, 27.0);
+    equals(|v| v.powi(0), 3.0, 1.0);
+    equals(|v| v.powi(2), -3.0, 9.0);
+    equals(|v| v.powi(3), -3.0, -27.0);
+    equals(|v| v.powi(4), -3.0, 81.0);
     // ln of a power of two is e × L, and 2 × L is a double.
     equals(Reading::ln, 4.0, 2.0 * std::f64::consts::LN_2);
+}
+
+/// A third times 3, less 1, is an enclosure around 0.
+fn around_zero() -> Reading {
+    point(1.0) / point(3.0) * point(3.0) - point(1.0)
+}
+
+/// The ends of its square are from 0 on; so is the enclosure, and lies between them.
+#[test]
+fn an_enclosure_around_zero_has_an_even_power_above_it() {
+    assert!(around_zero().exact().lower < Big::ZERO);
+    for k in [2, 4] {
+        let (power, notes) = work(|| around_zero().powi(k));
+        assert_eq!((power.range().lower, power.exact().lower), (0.0, Big::ZERO));
+        assert!(power.exact().upper > Big::ZERO);
+        assert_eq!(notes.outside, 0);
+    }
+    assert!(work(|| around_zero().powi(3)).0.exact().lower < Big::ZERO);
 }
 
 type Expected = (fn(Reading) -> Reading, f64, f64, &'static str, i64);
@@ -186,12 +224,14 @@ fn recipes_are_those_of_fractions() {
 #[test]
 fn recipes_lie_within_their_ranges() {
     type Function = fn(Reading) -> Reading;
-    let functions: [(Function, [f64; 2]); 5] = [
+    let functions: [(Function, [f64; 2]); 7] = [
         (Reading::ln, [0.01, 100.0]),
         (Reading::ln_1p, [-0.99, 10.0]),
         (Reading::exp, [-705.0, 700.0]),
         (Reading::tanh, [-22.0, 22.0]),
         (|v| v.powf(point(-2.5)), [0.01, 100.0]),
+        (|v| v.powi(2), [-10.0, 10.0]),
+        (|v| v.powi(4), [-10.0, 10.0]),
     ];
     let mut random = Random::new(7);
     for (f, interval) in functions {
@@ -215,8 +255,6 @@ fn without_result_and_undecided() {
     assert_eq!(notes(|| point(701.0).exp()).without_result, 1);
     assert_eq!(notes(|| point(0.0).powf(point(0.0))).without_result, 1);
     assert_eq!(work(|| point(1.0) / zero()).1.without_result, 1);
-    // A third times 3, less 1, is an enclosure around 0.
-    let around_zero = || point(1.0) / point(3.0) * point(3.0) - point(1.0);
     assert!(work(|| point(1.0) / around_zero()).1.undecided > 0);
     assert!(work(|| (point(1.5) + around_zero()).ln()).1.undecided > 0);
 }

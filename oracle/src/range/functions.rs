@@ -1,10 +1,10 @@
-//! The root, and the recipes of ln, ln_1p, exp, powers and tanh in ranges. A range that meets two
-//! cases of one rule fails.
+//! The whole powers, the root, and the recipes of ln, ln_1p, exp, powers and tanh in ranges. A range
+//! that meets two cases of one rule fails.
 
 use super::Range;
 use crate::constants::*;
 use crate::failure::Rule;
-use crate::shims::num_dual::{DualNum, horner};
+use crate::shims::num_dual::{DualNum, horner, product_power};
 
 const TWO: Range = Range::point(2.0);
 
@@ -32,6 +32,13 @@ impl DualNum for Range {
 
     fn re(self) -> Self {
         self
+    }
+
+    fn powi(self, k: i32) -> Self {
+        match k {
+            2 | 4 => self.even_power(k),
+            _ => product_power(Self::ONE, self, k),
+        }
     }
 
     fn sqrt(self) -> Self {

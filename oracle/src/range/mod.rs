@@ -1,5 +1,5 @@
-//! Ranges of two doubles by document 01's rules for ranges. Where a rule fails, the failure is
-//! recorded, and the range has NaN for its ends.
+//! Ranges of two doubles by document 01's rules for ranges, and M-103's for powers of 2 and 4. Where
+//! a rule fails, the failure is recorded, and the range has NaN for its ends.
 
 mod functions;
 
@@ -33,13 +33,17 @@ impl Range {
         Self { lower: f64::NAN, upper: f64::NAN }
     }
 
-    /// Each end moved to the next double outwards.
-    fn outwards(lower: f64, upper: f64) -> Self {
-        let (lower, upper) = (lower.next_down(), upper.next_up());
+    /// An end that is zero is +0, and one that is not finite fails.
+    fn ends(lower: f64, upper: f64) -> Self {
         if !lower.is_finite() || !upper.is_finite() {
             return Self::failed(Rule::NotFinite);
         }
         Self { lower: positive_zero(lower), upper: positive_zero(upper) }
+    }
+
+    /// Each end moved to the next double outwards.
+    fn outwards(lower: f64, upper: f64) -> Self {
+        Self::ends(lower.next_down(), upper.next_up())
     }
 
     /// From the least to the greatest of four values, moved outwards.
@@ -51,6 +55,29 @@ impl Range {
 
     fn holds_zero(self) -> bool {
         self.lower <= 0.0 && self.upper >= 0.0
+    }
+
+    /// The ends with signs dropped, the lesser first, which is 0 where the range holds 0.
+    fn magnitudes(self) -> Self {
+        let (a, b) = (self.lower.abs(), self.upper.abs());
+        let lower = if self.holds_zero() { 0.0 } else { a.min(b) };
+        Self { lower, upper: a.max(b) }
+    }
+
+    /// The product of two ranges of magnitudes, whose lower end is never moved below 0.
+    fn times_magnitudes(self, b: Self) -> Self {
+        let lower = (self.lower * b.lower).next_down().max(0.0);
+        Self::ends(lower, (self.upper * b.upper).next_up())
+    }
+
+    /// Squares and fourth powers have a rule of their own (M-103), since the sign of what is squared
+    /// makes no difference. [0,0] stays.
+    fn even_power(self, k: i32) -> Self {
+        if self == Self::ZERO {
+            return Self::ZERO;
+        }
+        let magnitudes = self.magnitudes();
+        (1..k).fold(magnitudes, |power, _| power.times_magnitudes(magnitudes))
     }
 }
 

@@ -3,6 +3,7 @@
 
 use super::big::{Big, Rounding::Down, Rounding::Up};
 use super::notes;
+use crate::shims::num_dual::product_power;
 use std::ops::{Add, Div, Mul, Neg, Sub};
 
 #[derive(Clone, Copy, Debug, PartialEq)]
@@ -50,6 +51,18 @@ impl Enclosure {
 
     pub fn lies_within(&self, [lower, upper]: [Big; 2]) -> bool {
         lower <= self.lower && self.upper <= upper
+    }
+
+    /// The product from the left. An even power is that of the magnitude, so that its bounds are not
+    /// below 0.
+    pub fn powi(self, k: i32) -> Self {
+        product_power(Self::ONE, if k % 2 == 0 { self.magnitude() } else { self }, k)
+    }
+
+    fn magnitude(self) -> Self {
+        let upper = self.upper.max(-self.lower);
+        let lower = self.lower.max(-self.upper).max(Big::ZERO);
+        Self { lower, upper }
     }
 
     fn is_positive(&self) -> bool {

@@ -104,6 +104,10 @@ impl DualNum for Reading {
         self
     }
 
+    fn powi(self, k: i32) -> Self {
+        Self::at(self.range.powi(k), self.exact.powi(k))
+    }
+
     fn sqrt(self) -> Self {
         let range = self.range.sqrt();
         if range.lower.is_nan() {

@@ -44,11 +44,15 @@ pub trait DualNum:
         Self::one() / self
     }
 
-    /// The product from the left, v × v × v.
     fn powi(self, k: i32) -> Self {
-        assert!(k >= 0, "the ported text has no negative power");
-        if k == 0 { Self::one() } else { (1..k).fold(self, |product, _| product * self) }
+        product_power(Self::one(), self, k)
     }
+}
+
+/// The product from the left, v × v × v; without a factor it is one.
+pub fn product_power<T: Copy + Mul<Output = T>>(one: T, v: T, k: i32) -> T {
+    assert!(k >= 0, "the ported text has no negative power");
+    if k == 0 { one } else { (1..k).fold(v, |product, _| product * v) }
 }
 
 /// The polynomial with these coefficients, lowest power first, by Horner's rule.
