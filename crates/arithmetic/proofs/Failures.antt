@@ -11,7 +11,7 @@ use lib.Ieee as Ieee
 use lib.Ieee.Scale.{finite}
 use Rattle.arithmetic.specs.Basic.{Basic, below, passes}
 use Rattle.arithmetic.specs.Value.{value}
-use Rattle.arithmetic.specs.Constants.{zero_d, one}
+use Rattle.arithmetic.specs.Constants.{zero_d}
 use Rattle.arithmetic.specs.Recipes as R
 use Rattle.arithmetic.specs.Arithmetic.{over, product_power, power_by, sum_by}
 use Rattle.arithmetic.specs.Root.{sqrt}

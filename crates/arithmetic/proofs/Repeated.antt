@@ -1,5 +1,5 @@
 -- Sums and powers, by one term and by one factor more.
-use Rattle.std.proofs.Common.{◌≡◌, ℕ, zero, suc, ◌+◌, ◌≤◌, refl, subst, add-one, arith}
+use Rattle.std.proofs.Common.{◌≡◌, ℕ, zero, suc, ◌+◌, ◌≤◌, refl, add-one, arith}
 use Rattle.arithmetic.specs.Arithmetic.{sum_by, power_by}
 
 module _ {V : Type 0} (start : V) (plus : V → V → V) where
@@ -22,8 +22,3 @@ longer_power one times v zero h = absurd (no h)
     no : 1 ≤ 0 → ⊥
     no h = omega arith
 longer_power one times v (suc i) h = rw add-one
-
-pub next_power : {V : Type 0} (one : V) (times : V → V → V) (v : V) (n : ℕ) → power_by one times v (n + 2) ≡ times (power_by one times v (n + 1)) v
-next_power one times v n =
-    let e : n + 1 + 1 ≡ n + 2 = omega arith in
-    subst (λ (k : ℕ). power_by one times v k ≡ times (power_by one times v (n + 1)) v) e (longer_power one times v (n + 1) (omega arith))

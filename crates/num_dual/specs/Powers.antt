@@ -9,6 +9,7 @@ use Rattle.arithmetic.proofs.Repeated.{single_factor}
 unfoldable pub PowersFromLeft : {V : Type 0} → Arithmetic V → Type 0
 PowersFromLeft {V = V} A = (a : V) (k : ℕ) → (k ≡ 2 → ⊥) → (k ≡ 4 → ⊥) → A.powi a k ≡ power_by (A.constant one) A.mul a k
 
+-- for where it does not unfold
 pub from_left : {V : Type 0} (A : Arithmetic V) → ((a : V) (k : ℕ) → (k ≡ 2 → ⊥) → (k ≡ 4 → ⊥) → A.powi a k ≡ power_by (A.constant one) A.mul a k) → PowersFromLeft A
 unfolding PowersFromLeft
 from_left A law = law

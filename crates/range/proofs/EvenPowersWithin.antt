@@ -17,13 +17,12 @@ use lib.Ieee.Bits.{is_true}
 use lib.Ieee.Fits.{and_l, and_r, mul-fits, neg-fits}
 use lib.Ieee.Scale.{finite}
 use Rattle.arithmetic.specs.Constants.{zero_d}
-use Rattle.arithmetic.specs.Fraction.{Fraction, null, ◌≼◌, ◌≺◌, ◌⊗◌}
+use Rattle.arithmetic.specs.Fraction.{Fraction, null, ◌≼◌, ◌≺◌}
 use Rattle.arithmetic.specs.Value.{value}
 use Rattle.arithmetic.specs.Arithmetic.{power_by, product_power}
-use Rattle.arithmetic.proofs.Fraction.{≼_refl, ≼_trans, ≼-or-≻, ≺→≼, ≼-≺-trans, ≺-≼-trans, ⊗-mono, ⊗-null}
+use Rattle.arithmetic.proofs.Fraction.{≼_refl, ≼_trans, ≼-or-≻, ≺→≼, ≼-≺-trans, ≺-≼-trans}
 use Rattle.arithmetic.proofs.Value.{le→≼, ≼→le, le_trans, neg_le, finite_between}
-use Rattle.arithmetic.proofs.Rounding.{mul_is, value_neg, finite_neg}
-use Rattle.arithmetic.proofs.Enclosure.{under_rounded}
+use Rattle.arithmetic.proofs.Rounding.{value_neg, finite_neg}
 use Rattle.arithmetic.proofs.Tests.{not_below}
 use Rattle.arithmetic.proofs.Zero.{is_zero_is}
 use Rattle.range.specs.declared.basic.Range.{Range}
@@ -31,7 +30,7 @@ use Rattle.range.specs.Rules.{range, failed, zero, ok, is_zero, apart, before, a
 use Rattle.range.specs.Rules as Rules
 use Rattle.range.specs.Enclosed.{Ok, Inside}
 use Rattle.range.proofs.Contained.{Contained, zero_is, zero_number, zero_doubles, zero_ok, Made, ends_made}
-use Rattle.range.proofs.Magnitudes.{by_test, below_zero, from_zero, cut_fits, cut_finite, cut_above, cut_over, cut_under, before_finite, greatest_over, from_to_is, magnitudes_ok, magnitudes_doubles, magnitudes_above, never_below}
+use Rattle.range.proofs.Magnitudes.{by_test, below_zero, from_zero, cut_fits, cut_finite, cut_above, cut_over, cut_under, has_before, greatest_over, from_to_is, magnitudes_ok, magnitudes_doubles, magnitudes_above, low_over_zero, low_above, product_is, never_below}
 use Rattle.range.proofs.Corners.{In, OfDoubles, lower_finite, upper_finite, before_fits, after_fits}
 use Rattle.range.proofs.Positive.{grows, above_nonzero}
 use Rattle.range.proofs.Negative.{and_false, neg_mul}
@@ -68,10 +67,8 @@ module _ (n s : Range) (N : Magnitudes n) (S : Magnitudes s) where
   abbrev high : Float
   high = Ieee.mul binary64 n.upper s.upper
 
-  low_over_zero : T (le zero_d low)
-  low_over_zero =
-      rw (mul_is binary64 n.lower s.lower (lower_finite n N.has_ends) (lower_finite s S.has_ends))
-      (under_rounded binary64 _ zero_d (value n.lower ⊗ value s.lower) zero_number zero_doubles.0 (≼_trans zero_is.0 (≼_trans (⊗-null (value n.lower)).1 (⊗-mono N.low S.low))))
+  from_zero_on : T (le zero_d low)
+  from_zero_on = low_over_zero n s N.has_ends S.has_ends N.low S.low
 
   low_under_high : T (le low high)
   low_under_high =
@@ -79,30 +76,24 @@ module _ (n s : Range) (N : Magnitudes n) (S : Magnitudes s) where
       N.low (≺→≼ S.high) N.in_order S.in_order
 
   high_over_zero : T (le zero_d high)
-  high_over_zero = le_trans zero_d low high low_over_zero low_under_high
+  high_over_zero = le_trans zero_d low high from_zero_on low_under_high
 
   module _ (p : T (finite high)) (a : T (finite (after high))) where
     low_finite : T (finite low)
-    low_finite = finite_between zero_d low high zero_number p low_over_zero low_under_high
+    low_finite = finite_between zero_d low high zero_number p from_zero_on low_under_high
 
-    low_above : null ≼ value low
-    low_above = ≼_trans zero_is.1 (le→≼ zero_d low zero_number low_finite low_over_zero)
+    above : null ≼ value low
+    above = low_above n s N.has_ends S.has_ends N.low S.low low_finite
 
     before_low : T (finite (before low))
-    before_low = before_finite low (mul-fits binary64 n.lower s.lower) low_finite low_above
+    before_low = has_before low (mul-fits binary64 n.lower s.lower) low_finite above
 
     up_from_low : value low ≺ value (after high)
     up_from_low = ≼-≺-trans (le→≼ low high low_finite p low_under_high) (after_over high (mul-fits binary64 n.upper s.upper) a)
 
     product_made : Made (not_below_zero (before low)) (after high) (mul_magnitudes n s)
-    unfolding mul_magnitudes
-    product_made = rw (
-      is_true (finite n.lower) (lower_finite n N.has_ends),
-      is_true (finite n.upper) (upper_finite n N.has_ends),
-      is_true (finite s.lower) (lower_finite s S.has_ends),
-      is_true (finite s.upper) (upper_finite s S.has_ends),
-      nonzero n N,
-    ) (ends_made (not_below_zero (before low)) (after high) (cut_fits (before low) (before_fits low)) (after_fits high) (cut_finite (before low) before_low) a)
+    product_made = rw (product_is n s N.has_ends S.has_ends N.low S.low, nonzero n N)
+        (ends_made (not_below_zero (before low)) (after high) (cut_fits (before low) (before_fits low)) (after_fits high) (cut_finite (before low) before_low) a)
 
     product_magnitudes : Magnitudes (mul_magnitudes n s)
     product_magnitudes =
@@ -112,8 +103,8 @@ module _ (n s : Range) (N : Magnitudes n) (S : Magnitudes s) where
           has_ends = m.has_ends;
           doubles = m.doubles;
           low = ≼_trans (cut_above (before low) (cut_finite (before low) before_low)) m.lower.1;
-          in_order = ≼_trans m.lower.0 (≼_trans (cut_under (before low) (≼_trans low_above (≺→≼ up_from_low)) (≼_trans b (≺→≼ up_from_low))) m.upper.1);
-          high = ≺-≼-trans (≼-≺-trans low_above up_from_low) m.upper.1;
+          in_order = ≼_trans m.lower.0 (≼_trans (cut_under (before low) (≼_trans above (≺→≼ up_from_low)) (≼_trans b (≺→≼ up_from_low))) m.upper.1);
+          high = ≺-≼-trans (≼-≺-trans above up_from_low) m.upper.1;
         }
 
 -- ---- the signs of products of one factor

@@ -47,7 +47,7 @@ module _ (x : Float) (p : T (finite x)) where
   from_zero e = ≼_trans zero_is.1 (not_below x zero_d p zero_number e)
 
   -- it is finite and not below 0; and it is the number, or its opposite where that is not below 0
-  pub record IsMagnitude (m : Float) : Type 0 where
+  record IsMagnitude (m : Float) : Type 0 where
     pub number : T (finite m)
     pub above : null ≼ value m
     pub over : value x ≼ value m
@@ -55,7 +55,7 @@ module _ (x : Float) (p : T (finite x)) where
     pub is : null ≼ value x → value m ≼ value x
     pub is_opposite : value x ≼ null → value m ≼ opp (value x)
 
-  pub magnitude_is : IsMagnitude (magnitude x)
+  magnitude_is : IsMagnitude (magnitude x)
   unfolding magnitude
   magnitude_is = by_test IsMagnitude (lt x zero_d) (neg x) x opposite own
     where
@@ -83,7 +83,7 @@ module _ (x : Float) (p : T (finite x)) where
             is_opposite = λ h. ≼_trans h (omega (arith, h));
           }
 
-pub magnitude_fits : (x : Float) → T (fits binary64 x) → T (fits binary64 (magnitude x))
+magnitude_fits : (x : Float) → T (fits binary64 x) → T (fits binary64 (magnitude x))
 unfolding magnitude
 magnitude_fits x f = cond-fits binary64 (lt x zero_d) (neg x) x (neg-fits binary64 x f) f
 
@@ -248,10 +248,10 @@ module _ (x : Float) where
   unfolding not_below_zero
   cut_under {q} z h = by_test (λ y. value y ≼ q) (lt x zero_d) zero_d x (λ e. ≼_trans zero_is.0 z) (λ e. h)
 
--- the double before one that is not below 0 is finite, since some double is below 0
-pub before_finite : (x : Float) → T (fits binary64 x) → T (finite x) → null ≼ value x → T (finite (before x))
+-- before a double that is not below 0 there is one, since some double is below 0
+pub has_before : (x : Float) → T (fits binary64 x) → T (finite x) → null ≼ value x → T (finite (before x))
 unfolding fits
-before_finite x f p z = (before_greatest (fin true 1 (pos 0)) x tt f tt p (≺-≼-trans (omega arith) z)).0
+has_before x f p z = (before_greatest (fin true 1 (pos 0)) x tt f tt p (≺-≼-trans (omega arith) z)).0
 
 moved_finite : (x : Float) → T (finite (not_below_zero (before x))) → T (finite x)
 unfolding not_below_zero lt
@@ -260,7 +260,7 @@ moved_finite (inf s) h = absurd h
 moved_finite (fin s m e) h = tt
 
 -- ---- the product of two ranges of magnitudes
-abbrev product_if : Range → Range → (r_zero : Bool) → Range
+abbrev pub product_if : Range → Range → (r_zero : Bool) → Range
 product_if r s i = cond i zero (ends (not_below_zero (before (mul binary64 r.lower s.lower))) (after (mul binary64 r.upper s.upper)))
 
 -- it is never below 0, whatever r and s are
@@ -298,13 +298,16 @@ module _ (r s : Range) (A : Ok r) (B : Ok s) (z : Above r) (w : Above s) where
   high_rounds : Rounds binary64 high (value r.upper ⊗ value s.upper)
   high_rounds = mul_rounds binary64 r.upper s.upper (upper_finite r A) (upper_finite s B)
 
-  low_above : T (finite low) → null ≼ value low
-  low_above p = ≼_trans zero_is.1 (le→≼ zero_d low zero_number p (subst (λ (x : Float). T (le zero_d x)) (sym low_rounds.1) (under_rounded binary64 low_rounds.0 zero_d _ zero_number zero_doubles.0 (≼_trans zero_is.0 (times_null z w)))))
+  pub low_over_zero : T (le zero_d low)
+  low_over_zero = subst (λ (x : Float). T (le zero_d x)) (sym low_rounds.1) (under_rounded binary64 low_rounds.0 zero_d _ zero_number zero_doubles.0 (≼_trans zero_is.0 (times_null z w)))
+
+  pub low_above : T (finite low) → null ≼ value low
+  low_above p = ≼_trans zero_is.1 (le→≼ zero_d low zero_number p low_over_zero)
 
   product_within : {v v' : Fraction} → In r v → In s v' → T (finite (not_below_zero (before low))) → T (finite (after high)) → Within (not_below_zero (before low)) (after high) (v ⊗ v')
   product_within h k L H =
       let p : T (finite low) = moved_finite low L in
-      let b : T (finite (before low)) = before_finite low (mul-fits binary64 r.lower s.lower) p (low_above p) in
+      let b : T (finite (before low)) = has_before low (mul-fits binary64 r.lower s.lower) p (low_above p) in
       let v_above = ≼_trans z h.low in
       let v'_above = ≼_trans w k.low in
       record {
@@ -322,7 +325,7 @@ module _ (r s : Range) (A : Ok r) (B : Ok s) (z : Above r) (w : Above s) where
         (not_below_zero (before low)) (after high) (cut_fits (before low) (before_fits low)) (after_fits high)
         (λ L H. (product_within x.exact y.exact L H, product_within x.near y.near L H)) O
 
-  product_is : mul_magnitudes r s ≡ product_if r s (is_zero r)
+  pub product_is : mul_magnitudes r s ≡ product_if r s (is_zero r)
   unfolding mul_magnitudes
   product_is = rw (is_true (finite r.lower) (lower_finite r A), is_true (finite r.upper) (upper_finite r A), is_true (finite s.lower) (lower_finite s B), is_true (finite s.upper) (upper_finite s B))
 

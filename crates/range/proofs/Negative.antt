@@ -201,7 +201,7 @@ ends_nonzero : (l u : Float) → T (finite l) → T (finite u) → eq l zero_d �
 unfolding Rules.ends
 ends_nonzero l u L U x y = rw (is_true (finite l) L, is_true (finite u) U, x, y)
 
-where_finite : (x y : Float) → T (finite (cond (finite x) y nan)) → T (finite x)
+pub where_finite : (x y : Float) → T (finite (cond (finite x) y nan)) → T (finite x)
 where_finite nan y h = absurd h
 where_finite (inf s) y h = absurd h
 where_finite (fin s m e) y h = tt

@@ -23,20 +23,15 @@ use Rattle.range.specs.Rules as Rules
 use Rattle.range.specs.Enclosed.{Ok}
 use Rattle.range.proofs.Contained.{zero_value, finite_ends, Made, ends_made}
 use Rattle.range.proofs.Corners.{OfDoubles, AtEnds, lowest, highest, lower_finite, upper_finite, before_fits, after_fits, product_ends, lowest_under, highest_over, lowest_fits, highest_fits}
-use Rattle.range.proofs.Negative.{mul_neg, neg_mul, both_neg, neg_neg}
+use Rattle.range.proofs.Negative.{where_finite, mul_neg, neg_mul, both_neg, neg_neg}
 use Rattle.range.proofs.Failures.{mul_kept}
 
 -- ---- the double before x, and the double after it
-was_finite : (x y : Float) → T (finite (cond (finite x) y nan)) → T (finite x)
-was_finite nan y h = absurd h
-was_finite (inf s) y h = absurd h
-was_finite (fin s m e) y h = tt
-
 before_finite : (x : Float) → T (finite (before x)) → T (finite x)
-before_finite x = was_finite x _
+before_finite x = where_finite x _
 
 after_finite : (x : Float) → T (finite (after x)) → T (finite x)
-after_finite x = was_finite x _
+after_finite x = where_finite x _
 
 module _ (x : Float) (f : T (fits binary64 x)) where
   pub before_under : T (finite (before x)) → value (before x) ≺ value x
