@@ -12,7 +12,7 @@ use Rattle.arithmetic.specs.Basic.{Basic, Limit, Step, passes, pick}
 use Rattle.arithmetic.specs.Root.{sqrt}
 use Rattle.arithmetic.specs.Arithmetic.{Arithmetic, product_power}
 use Rattle.arithmetic.specs.Doubles.{checked, quotient, tested, stepped, or_nan, strict, plain, doubles, guarded}
-use Rattle.arithmetic.proofs.Both.{Both, BasicKept, basic_both, Kept, both, over_kept, powi_kept}
+use Rattle.arithmetic.proofs.Both.{Both, BasicKept, basic_both, Kept, both, over_kept, product_power_kept}
 
 -- the strict value d is the code's value g, checked
 pub record Same (g d : Float) : Type 0 where
@@ -139,7 +139,7 @@ in_code b p = sym b.holds.is ∙ checked_is b.left (was_finite b.left (subst (λ
 pub agreement : Kept guarded doubles Same
 agreement =
     over_kept plain strict Same plain_strict (product_power plain) (product_power strict) sqrt (λ x. checked (sqrt x))
-    (λ a x n p. powi_kept plain strict Same plain_strict n p)
+    (λ a x n p. product_power_kept plain strict Same plain_strict n p)
     (λ a x p. same (rw (← p.is) (of_sqrt a)))
 
 -- a formula worked in `agreed` is the proof that its guarded value, checked, is its strict value

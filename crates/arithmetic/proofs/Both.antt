@@ -72,11 +72,11 @@ module _ (A B : Basic) (R : A.Value → B.Value → Type 0) where
     powf_kept h k = (Recipes.powf basic_both (both_of R h) (both_of R k)).holds
 
     -- ---- sums and powers
-    pub powi_kept : {a : A.Value} {x : B.Value} (n : ℕ) → R a x → R (product_power A a n) (product_power B x n)
+    pub product_power_kept : {a : A.Value} {x : B.Value} (n : ℕ) → R a x → R (product_power A a n) (product_power B x n)
     unfolding power_by
-    powi_kept zero h = K.constant one
-    powi_kept (suc zero) h = h
-    powi_kept (suc (suc n)) h = K.mul (powi_kept (suc n) h) h
+    product_power_kept zero h = K.constant one
+    product_power_kept (suc zero) h = h
+    product_power_kept (suc (suc n)) h = K.mul (product_power_kept (suc n) h) h
 
     pub sum_kept : {f : ℕ → A.Value} {g : ℕ → B.Value} (n : ℕ) → ((i : ℕ) → R (f i) (g i)) → R (sum_by (A.constant zero_d) A.add n f) (sum_by (B.constant zero_d) B.add n g)
     unfolding sum_by
