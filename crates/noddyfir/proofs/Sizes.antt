@@ -51,6 +51,7 @@ sized_refusal room refusal = record { bytes = sym (ap (λ (b : Bool). cond b roo
     not_zero Due.Ends = refl
     not_zero Due.Slopes = refl
     not_zero Due.Attraction = refl
+    not_zero Due.PairConstant = refl
 
 -- or those of the answer behind the tests
 sized_tested : {room : ℕ} {a : Answer} (r : Result (Unit {0}) Refusal) → Sized room a → Sized room (answered (result_and r (Ok a)))

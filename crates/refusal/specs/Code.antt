@@ -1,4 +1,4 @@
--- Document 01's table of codes, and of document 02 11 (M-100) and 12 (M-101).
+-- Document 01's table of codes, and of document 02 11 (M-100), 12 (M-101) and 13 (M-104).
 use Rattle.std.specs.Prelude.{ℕ}
 use Rattle.refusal.specs.declared.Refusal.{Refusal}
 use Rattle.refusal.specs.declared.Refusal.TheVariants as At
@@ -17,3 +17,4 @@ code At.Arithmetic = 9
 code At.Ends = 10
 code At.Slopes = 11
 code At.Attraction = 12
+code At.PairConstant = 13

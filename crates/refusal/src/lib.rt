@@ -18,6 +18,7 @@ pub enum Refusal {
     Ends = 10,
     Slopes = 11,
     Attraction = 12,
+    PairConstant = 13,
 }
 
 // The number that an answer's code byte has, and that a call returns.
