@@ -4,9 +4,12 @@ use Rattle.arithmetic.specs.Arithmetic.{Arithmetic}
 use Rattle.arithmetic.proofs.Both.{Both, both_of, Kept, both}
 use Rattle.uvtheory.specs.declared.eos.Perturbation.{Perturbation}
 use Rattle.uvtheory.specs.declared.eos.Perturbation.TheVariants.{BarkerHenderson, WeeksChandlerAndersen, WeeksChandlerAndersenB3}
+use Rattle.std.specs.Prelude.{Float}
+use Rattle.std.specs.Float.Ieee.{eq}
+use Rattle.arithmetic.specs.Constants.{zero_d}
 use Rattle.uvtheory.specs.Literals.{half, one, six}
 use Rattle.uvtheory.specs.declared.contributions.Contributions.{Contributions}
-use Rattle.uvtheory.specs.Parameters.{UVTheoryParameters, UVTheoryPars, State, mapped, combined, new, mie_prefactor, mean_field_of, bh_coefficient, bh_coefficients}
+use Rattle.uvtheory.specs.Parameters.{UVTheoryParameters, UVTheoryPars, State, mapped, combined, with_l_ij, new, mie_prefactor, mean_field_of, bh_coefficient, bh_coefficients}
 use Rattle.uvtheory.specs.HardSphere as S
 use Rattle.uvtheory.specs.PackingFraction as P
 use Rattle.uvtheory.specs.ReferenceEnergy as RE
@@ -39,6 +42,14 @@ module _ {X Y : Type 0} (A : Arithmetic X) (B : Arithmetic Y) (R : X → Y → T
       go false true = h i j
       go false false = h j i
 
+  with_l_ij_kept : (l : Float) {x : X} {y : Y} → R x y → R (with_l_ij A l x) (with_l_ij B l y)
+  unfolding with_l_ij
+  with_l_ij_kept l {x} {y} h = go (eq l zero_d)
+    where
+      go : (b : Bool) → R (cond b x (A.mul (A.sub (A.constant one) (A.constant l)) x)) (cond b y (B.mul (B.sub (B.constant one) (B.constant l)) y))
+      go true = h
+      go false = K.mul (K.sub (K.constant one) (K.constant l)) h
+
   -- the parameters and the state of two meanings
   module _ (p : UVTheoryParameters) where
     abbrev pars : UVTheoryPars (Both R)
@@ -55,7 +66,7 @@ module _ {X Y : Type 0} (A : Arithmetic X) (B : Arithmetic Y) (R : X → Y → T
           epsilon_k = epsilon_k;
           rep_ij = λ i j. both_of R (combined_kept rep (λ i j. K.sqrt (K.mul (rep i).holds (rep j).holds)) i j);
           att_ij = λ i j. both_of R (combined_kept att (λ i j. K.sqrt (K.mul (att i).holds (att j).holds)) i j);
-          sigma_ij = λ i j. both_of R (combined_kept sigma (λ i j. K.mul (K.constant half) (K.add (sigma i).holds (sigma j).holds)) i j);
+          sigma_ij = λ i j. both_of R (combined_kept sigma (λ i j. with_l_ij_kept (p.l_ij i j) (K.mul (K.constant half) (K.add (sigma i).holds (sigma j).holds))) i j);
           eps_k_ij = λ i j. both_of R (combined_kept epsilon_k
               (λ i j. K.mul (K.sub (K.constant one) (K.constant (p.k_ij i j))) (K.sqrt (K.mul (epsilon_k i).holds (epsilon_k j).holds))) i j);
           cd_bh_pure = λ i. bh_coefficients AB (rep i) (AB.constant six);

@@ -21,11 +21,11 @@ module _ (a s : ℕ) (aligned : a ≤ 2 ^ 32) (small : s ≤ 2 ^ 32) where
   -- a mixture, with the rows and the matrices of its values
   pub parameters_fit :
       up (max 8 (max a (max a (max a (max a (max a (max a (max a (max a 1)))))))))
-      (up a (up a (up a (up a (up a (up a (up a (up a 488 + 8 * s) + 8 * s) + 8 * s) + 8 * s) + 64 * s) + 64 * s) + 64 * s) + 64 * s) < 2 ^ 63
+      (up a (up a (up a (up a (up a (up a (up a (up a 712 + 8 * s) + 8 * s) + 8 * s) + 8 * s) + 64 * s) + 64 * s) + 64 * s) + 64 * s) < 2 ^ 63
   parameters_fit =
       let eight : 8 ≤ 64 = omega arith in
       let all = le_refl 64 in
-      let rows = next 8 eight (next 8 eight (next 8 eight (next 8 eight (le_refl 488)))) in
+      let rows = next 8 eight (next 8 eight (next 8 eight (next 8 eight (le_refl 712)))) in
       let end = next 64 all (next 64 all (next 64 all (next 64 all rows))) in
       let padded = up_le (max-le (let z : 8 ≤ 2 ^ 32 = omega arith in z) (wider (wider (wider (wider (wider (wider (wider (wider (let z : 1 ≤ 2 ^ 32 = omega arith in z)))))))))) end in
       lt_of_le_of_lt padded (omega arith)

@@ -1,10 +1,11 @@
 -- How a mixture and a state, as the code holds them, enter the formulas: a mixture by its doubles as sent, each a constant of the arithmetic; a state by its values.
 use Rattle.std.specs.Prelude.{Float}
 use Rattle.arithmetic.specs.Arithmetic.{Arithmetic}
+use Rattle.arithmetic.specs.Constants.{zero_d}
 use Rattle.uvtheory.specs.declared.parameters.Mixture.{Mixture}
 use Rattle.uvtheory.specs.declared.parameters.State.{State as HeldState}
 use Rattle.uvtheory.specs.Parameters.{UVTheoryParameters, UVTheoryPars, State, mapped, new}
-use Rattle.uvtheory.specs.Rows.{doubles, row, place}
+use Rattle.uvtheory.specs.Rows.{doubles, row, row_of, place}
 
 -- a mixture in a state, as the code holds them
 pub record MixtureState (Value : Type 0) : Type 0 where
@@ -19,6 +20,7 @@ sent m = record {
   sigma = doubles m.sigma;
   epsilon_k = doubles m.epsilon_k;
   k_ij = λ i j. doubles m.k_ij (place m.n i j);
+  l_ij = λ i j. row_of zero_d m.l_ij (place m.n i j);
 }
 
 abbrev pub held : HeldState Float → State Float

@@ -1,10 +1,12 @@
 -- uvtheory/parameters.rs: the parameters of a mixture, as sent and combined, and `mie_prefactor`, `mean_field_constant` and `bh_coefficients`.
 use Rattle.std.specs.Prelude.{ℕ, zero, suc, cond, ◌==◌, nat_lt, Float}
+use Rattle.std.specs.Float.Ieee.{eq}
 use Rattle.arithmetic.specs.Arithmetic.{Arithmetic}
+use Rattle.arithmetic.specs.Constants.{zero_d}
 use Rattle.uvtheory.specs.Literals.{half, one, three, six, seven, minus_two}
 use Rattle.uvtheory.specs.Tables.{CD_BH}
 
--- `UVTheoryParameters`: what is sent of a mixture. Doubles in every arithmetic, since parameters are taken as sent; `k_ij` is read for i below j.
+-- `UVTheoryParameters`: what is sent of a mixture. Doubles in every arithmetic, since parameters are taken as sent; `k_ij` and `l_ij` are read for i below j.
 pub record UVTheoryParameters : Type 0 where
   pub n : ℕ
   pub rep : ℕ → Float
@@ -12,6 +14,7 @@ pub record UVTheoryParameters : Type 0 where
   pub sigma : ℕ → Float
   pub epsilon_k : ℕ → Float
   pub k_ij : ℕ → ℕ → Float
+  pub l_ij : ℕ → ℕ → Float
 
 -- `UVTheoryPars`: functions of the component's number stand for vectors and matrices. `cd_bh_binary` is left out, since no energy reads it.
 pub record UVTheoryPars (X : Type 0) : Type 0 where
@@ -74,6 +77,10 @@ module _ {Value : Type 0} (A : Arithmetic Value) where
       let am6 = mean_field_constant rep att (constant one) in
       bh_coefficient (mie_prefactor rep att) (constant one / am6 - inv_a76 att) rep att
 
+  -- M-104: "sigma_ij is (1 − l_ij) × (0.5 × (sigma_i + sigma_j))", and "a pair whose l_ij is 0 keeps its sigma_ij": so by the double that is sent
+  unfoldable pub with_l_ij : Float → Value → Value
+  with_l_ij l_ij sigma_ij = cond (eq l_ij zero_d) sigma_ij ((constant one - constant l_ij) * sigma_ij)
+
   -- `UVTheoryPars::new`
   abbrev pub new : UVTheoryParameters → UVTheoryPars Value
   new p =
@@ -89,7 +96,7 @@ module _ {Value : Type 0} (A : Arithmetic Value) where
         epsilon_k = epsilon_k;
         rep_ij = combined rep (λ i j. sqrt (rep i * rep j));
         att_ij = combined att (λ i j. sqrt (att i * att j));
-        sigma_ij = combined sigma (λ i j. constant half * (sigma i + sigma j));
+        sigma_ij = combined sigma (λ i j. with_l_ij (p.l_ij i j) (constant half * (sigma i + sigma j)));
         eps_k_ij = combined epsilon_k (λ i j. (constant one - constant (p.k_ij i j)) * sqrt (epsilon_k i * epsilon_k j));
         cd_bh_pure = λ i. bh_coefficients (rep i) (constant six);
       }

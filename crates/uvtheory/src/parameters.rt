@@ -4,14 +4,15 @@ ghost use Rattle.uvtheory.specs.Literals as N;
 ghost use Rattle.uvtheory.specs.Parameters as F;
 ghost use Rattle.uvtheory.specs.Parameters.{combined};
 ghost use Rattle.uvtheory.specs.Inputs.{parameters};
-ghost use Rattle.uvtheory.specs.Rows.{doubles, row, Matrix, place as place_of};
+ghost use Rattle.uvtheory.specs.Rows.{doubles, row, row_of, Matrix, place as place_of};
+ghost use Rattle.arithmetic.specs.Constants.{zero_d};
 
 use crate::arrays::{constants, symmetric};
 use crate::components::Components;
 use num_dual::dual_num::DualNum;
 use std::marker::Model;
 
-// A mixture of n substances, as sent. Only the first n of each row count, and of k_ij the first n(n-1)/2: i below j, row by row.
+// A mixture of n substances, as sent. Only the first n of each row count, and of k_ij and l_ij the first n(n-1)/2: i below j, row by row.
 #[derive(Clone, Copy)]
 pub struct Mixture {
     pub n: Components,
@@ -20,6 +21,7 @@ pub struct Mixture {
     pub sigma: [f64; 8],
     pub epsilon_k: [f64; 8],
     pub k_ij: [f64; 28],
+    pub l_ij: [f64; 28],
 }
 
 // feos_core's StateHD: temperature, and partial densities and mole fractions as separate fields.
@@ -137,12 +139,26 @@ pub fn bh_coefficients<D: DualNum>(rep: D, inv_a76: D) -> [D; 5]
     ]
 }
 
-// The place of k_ij.
+// The place of k_ij, and of l_ij.
 pub fn place(n: Components, i: usize, j: usize) -> usize
     requires { (i < j) × (j < n) }
     ensures { (result ≡ place_of n i j) × (result < 28) }
 {
     i * (2 * n.get() - i - 1) / 2 + (j - i - 1)
+}
+
+// The sigma_ij of a pair by its l_ij, the k-th; where that is 0 it stays, with no operation more.
+#[tactic(auto, unfolding(crate::specs::Parameters::with_l_ij))]
+fn with_l_ij<D: DualNum>(l_ij: &[f64; 28], k: usize, sigma_ij: D) -> D
+    requires { k < 28 }
+    ensures { result ≡ F.with_l_ij D.arithmetic (row_of zero_d l_ij.now k) sigma_ij }
+{
+    let l = l_ij[k];
+    if l == 0.0 {
+        sigma_ij
+    } else {
+        (D::from(1.0) - D::from(l)) * sigma_ij
+    }
 }
 
 // The combined values of all pairs: on the diagonal the substances' own, and for i below j what the rule gives.
@@ -167,6 +183,7 @@ impl<D: DualNum> UVTheoryPars<D> {
     {
         let n = m.n;
         let k_ij = &m.k_ij;
+        let l_ij = &m.l_ij;
         let rep = constants(&m.rep);
         let att = constants(&m.att);
         let sigma = constants(&m.sigma);
@@ -197,9 +214,9 @@ impl<D: DualNum> UVTheoryPars<D> {
                 n,
                 &sigma,
                 |i, j| -> D
-                    requires { (i < 8) × (j < 8) }
-                    ensures { result ≡ D.arithmetic.mul (D.arithmetic.constant N.half) (D.arithmetic.add (row D.arithmetic sigma i) (row D.arithmetic sigma j)) }
-                { D::from(0.5) * (sigma[i] + sigma[j]) },
+                    requires { (i < j) × (j < n) × (n ≤ 8) }
+                    ensures { result ≡ F.with_l_ij D.arithmetic (row_of zero_d l_ij.entry.now (place_of n i j)) (D.arithmetic.mul (D.arithmetic.constant N.half) (D.arithmetic.add (row D.arithmetic sigma i) (row D.arithmetic sigma j))) }
+                { with_l_ij(l_ij, place(n, i, j), D::from(0.5) * (sigma[i] + sigma[j])) },
             ),
             eps_k_ij: by_rule(
                 n,
