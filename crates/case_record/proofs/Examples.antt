@@ -30,6 +30,7 @@ its_case : case_of two_substances ≡ record {
     sigma = d 3 1 ∷ d 4 1 ∷ replicate 6 zero_d;
     epsilon_k = d 100 1 ∷ d 400 1 ∷ replicate 6 zero_d;
     k_ij = d 1 4 ∷ replicate 27 zero_d;
+    l_ij = replicate 28 zero_d;
   };
   state = record {
     temperature = d 300 1;

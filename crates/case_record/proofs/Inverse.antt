@@ -14,13 +14,13 @@ use Rattle.big_endian.specs.Bytes.{bytes_of, doubles_bytes}
 use Rattle.big_endian.proofs.Inverse as bytes
 use Rattle.big_endian.proofs.Written.{doubles_snoc, length_doubles}
 use Rattle.case_record.specs.declared.layout.Header.{Header}
-use Rattle.case_record.specs.Layout.{header_of, layout_of, length_field, length_of, pairs, perturbation_of}
+use Rattle.case_record.specs.Layout.{header_of, layout_of, length_field, length_of, l_pairs, pairs, perturbation_of}
 use Rattle.case_record.specs.Record.{case_of, column, double, mixture_of, row, state_of, values}
 use Rattle.case_record.specs.Writing.{Padded, PaddedRow, double_of, field_of, header_bytes, record_bytes}
 use Rattle.case_record.proofs.Rows.{length_values}
 use Rattle.case_record.proofs.Sizes.{few_doubles}
 use Rattle.case_record.proofs.Values.{value_at, same_values, row_at, same_rows, row_padded}
-use Rattle.case_record.proofs.Places.{substance_at, k_ij_at, temperature_at, density_at, fraction_at, each_place}
+use Rattle.case_record.proofs.Places.{substance_at, k_ij_at, l_ij_at, temperature_at, density_at, fraction_at, each_place}
 
 -- ---- a record that was read, by any header
 field_of_read : (s : List ℕ) (h : Header) (j : ℕ) → j < 4 → field_of (mixture_of s h) j ≡ row 8 h.n (column s j 4)
@@ -35,7 +35,7 @@ field_of_read s h (suc (suc (suc (suc j)))) p = absurd (four j p)
     four j p = omega arith
 
 -- its doubles are those that are written of it
-double_of_read : (s : List ℕ) (h : Header) (k : ℕ) → k < (layout_of h).doubles → double_of h (mixture_of s h) (state_of s h) k ≡ double s k
+pub double_of_read : (s : List ℕ) (h : Header) (k : ℕ) → k < (layout_of h).doubles → double_of h (mixture_of s h) (state_of s h) k ≡ double s k
 unfolding mixture_of state_of
 double_of_read s h =
     let m = mixture_of s h in
@@ -43,12 +43,13 @@ double_of_read s h =
     each_place h (λ k. double_of h m t k ≡ double s k)
     (λ j i p q. substance_at h m t j i p q ∙ ap (λ (l : List Float). get_or l i nan) (field_of_read s h j p) ∙ row_at 8 h.n (column s j 4) i q)
     (λ i p. k_ij_at h m t i p ∙ row_at 28 (pairs h.n) (column s (layout_of h).k_ij 1) i p)
+    (λ i p. l_ij_at h m t i p ∙ row_at 28 (l_pairs h) (column s (layout_of h).l_ij 1) i p)
     (temperature_at h m t)
     (λ i p. density_at h m t i p ∙ row_at 8 h.n (column s (layout_of h).partial_density 1) i p)
     (λ i p. fraction_at h m t i p ∙ row_at 8 h.n (column s (layout_of h).molefracs 1) i p)
 
 -- what is read can be read again
-pub read_padded : (s : List ℕ) (h : Header) → Padded h.n (mixture_of s h) (state_of s h)
+pub read_padded : (s : List ℕ) (h : Header) → Padded h (mixture_of s h) (state_of s h)
 unfolding mixture_of state_of
 read_padded s h = record {
   count = refl;
@@ -57,6 +58,7 @@ read_padded s h = record {
   sigma = row_padded 8 h.n s 2 4;
   epsilon_k = row_padded 8 h.n s 3 4;
   k_ij = row_padded 28 (pairs h.n) s (layout_of h).k_ij 1;
+  l_ij = row_padded 28 (l_pairs h) s (layout_of h).l_ij 1;
   temperature = bytes.read_fits s (5 + 8 * (layout_of h).temperature);
   partial_density = row_padded 8 h.n s (layout_of h).partial_density 1;
   molefracs = row_padded 8 h.n s (layout_of h).molefracs 1;
@@ -64,7 +66,7 @@ read_padded s h = record {
 
 -- ---- a record of bytes without a NaN, written as it was
 module _ (s : List ℕ) (are_bytes : (i : ℕ) → get_or s i 0 < 256) where
-  doubles_of_read : (n : ℕ) → 5 + 8 * n ≤ length s → ((k : ℕ) → k < n → T (not (is_nan (double s k)))) → doubles_bytes (values n (double s)) ≡ take (8 * n) (drop 5 s)
+  pub doubles_of_read : (n : ℕ) → 5 + 8 * n ≤ length s → ((k : ℕ) → k < n → T (not (is_nan (double s k)))) → doubles_bytes (values n (double s)) ≡ take (8 * n) (drop 5 s)
   unfolding values
   doubles_of_read zero l h = refl
   doubles_of_read (suc n) l h =
@@ -89,14 +91,14 @@ module _ (s : List ℕ) (are_bytes : (i : ℕ) → get_or s i 0 < 256) where
       rw (a, b, c) (header_of_read l)
 
 -- ---- what was written, read, with anything behind it
-field_padded : {n : ℕ} {m : Mixture} {t : State Float} → Padded n m t → (j : ℕ) → PaddedRow 8 n (field_of m j)
+field_padded : {h : Header} {m : Mixture} {t : State Float} → Padded h m t → (j : ℕ) → PaddedRow 8 h.n (field_of m j)
 field_padded p zero = p.rep
 field_padded p (suc zero) = p.att
 field_padded p (suc (suc zero)) = p.sigma
 field_padded p (suc (suc (suc j))) = p.epsilon_k
 
-same_mixture : {a b : Mixture} → a.n ≡ b.n → a.rep ≡ b.rep → a.att ≡ b.att → a.sigma ≡ b.sigma → a.epsilon_k ≡ b.epsilon_k → a.k_ij ≡ b.k_ij → a ≡ b
-same_mixture n rep att sigma epsilon_k k_ij = λ i. record { n = n i; rep = rep i; att = att i; sigma = sigma i; epsilon_k = epsilon_k i; k_ij = k_ij i }
+same_mixture : {a b : Mixture} → a.n ≡ b.n → a.rep ≡ b.rep → a.att ≡ b.att → a.sigma ≡ b.sigma → a.epsilon_k ≡ b.epsilon_k → a.k_ij ≡ b.k_ij → a.l_ij ≡ b.l_ij → a ≡ b
+same_mixture n rep att sigma epsilon_k k_ij l_ij = λ i. record { n = n i; rep = rep i; att = att i; sigma = sigma i; epsilon_k = epsilon_k i; k_ij = k_ij i; l_ij = l_ij i }
 
 same_state : {a b : State Float} → a.temperature ≡ b.temperature → a.partial_density ≡ b.partial_density → a.molefracs ≡ b.molefracs → a ≡ b
 same_state temperature density fraction = λ i. record { temperature = temperature i; partial_density = density i; molefracs = fraction i }
@@ -111,16 +113,17 @@ module _ (h : Header) (m : Mixture) (t : State Float) (rest : List ℕ) where
   length_read l = bytes.read_written 2 (length_of h) [] (h.version ∷ h.perturbation ∷ h.n ∷ (doubles_bytes (values (layout_of h).doubles (double_of h m t)) ++ rest)) (omega (arith, few_doubles h l))
 
   -- each double of a mixture and a state is one
-  double_fits : Padded h.n m t → (k : ℕ) → k < (layout_of h).doubles → T (fits binary64 (double_of h m t k))
+  double_fits : Padded h m t → (k : ℕ) → k < (layout_of h).doubles → T (fits binary64 (double_of h m t k))
   double_fits p =
       each_place h (λ k. T (fits binary64 (double_of h m t k)))
       (λ j i a b. rw (substance_at h m t j i a b) ((field_padded p j).doubles i b))
       (λ i a. rw (k_ij_at h m t i a) (p.k_ij.doubles i a))
+      (λ i a. rw (l_ij_at h m t i a) (p.l_ij.doubles i a))
       (rw (temperature_at h m t) p.temperature)
       (λ i a. rw (density_at h m t i a) (p.partial_density.doubles i a))
       (λ i a. rw (fraction_at h m t i a) (p.molefracs.doubles i a))
 
-  double_written : Padded h.n m t → (k : ℕ) → k < (layout_of h).doubles → double (record_bytes h m t ++ rest) k ≡ double_of h m t k
+  double_written : Padded h m t → (k : ℕ) → k < (layout_of h).doubles → double (record_bytes h m t ++ rest) k ≡ double_of h m t k
   unfolding bytes_of
   double_written p k l =
       let f = double_of h m t in
@@ -128,7 +131,7 @@ module _ (h : Header) (m : Mixture) (t : State Float) (rest : List ℕ) where
       let e : get_or (values d f) k nan ≡ f k = value_at d f k l in
       bytes.read_doubles (values d f) k (header_bytes h) rest (rw length_values l) (rw e (double_fits p k l)) ∙ e
 
-  module _ (p : Padded h.n m t) where
+  module _ (p : Padded h m t) where
     abbrev s : List ℕ
     s = record_bytes h m t ++ rest
 
@@ -147,6 +150,7 @@ module _ (h : Header) (m : Mixture) (t : State Float) (rest : List ℕ) where
         (field_read 2 (omega arith))
         (field_read 3 (omega arith))
         (row_read 28 (pairs h.n) (layout_of h).k_ij 1 m.k_ij p.k_ij (λ i b. omega arith) (k_ij_at h m t))
+        (row_read 28 (l_pairs h) (layout_of h).l_ij 1 m.l_ij p.l_ij (λ i b. omega arith) (l_ij_at h m t))
 
     state_read : state_of s h ≡ t
     unfolding state_of
@@ -159,7 +163,7 @@ unfolding bytes_of
 record_length h m t = let xs = values (layout_of h).doubles (double_of h m t) in omega (arith, length_doubles xs, length_values (layout_of h).doubles (double_of h m t))
 
 -- the laws together, with anything behind the record
-pub read_written : (h : Header) (m : Mixture) (t : State Float) (rest : List ℕ) → h.n ≤ 8 → Padded h.n m t
+pub read_written : (h : Header) (m : Mixture) (t : State Float) (rest : List ℕ) → h.n ≤ 8 → Padded h m t
     → let s = record_bytes h m t ++ rest in
     (header_of s ≡ h) × (mixture_of s h ≡ m) × (state_of s h ≡ t) × (length_field s ≡ length_of h) × (length s ≡ 2 + length_of h + length rest)
 read_written h m t rest l p = (
@@ -171,7 +175,7 @@ read_written h m t rest l p = (
 )
 
 -- the case that is read
-pub case_read : (h : Header) (m : Mixture) (t : State Float) (rest : List ℕ) → Padded h.n m t
+pub case_read : (h : Header) (m : Mixture) (t : State Float) (rest : List ℕ) → Padded h m t
     → case_of (record_bytes h m t ++ rest) ≡ record { perturbation = perturbation_of h.perturbation; mixture = m; state = t }
 unfolding bytes_of
 case_read h m t rest p = λ i. record { perturbation = perturbation_of h.perturbation; mixture = mixture_read h m t rest p i; state = state_read h m t rest p i }

@@ -4,5 +4,6 @@ pub mod Rows
 pub mod Values
 pub mod Places
 pub mod Pieces
+pub mod Versions
 pub mod Inverse
 pub mod Examples

@@ -6,7 +6,7 @@ use Rattle.uvtheory.specs.declared.parameters.State.{State}
 use Rattle.case_record.specs.declared.case.Case.{Case}
 use Rattle.case_record.specs.declared.layout.Header.{Header}
 use Rattle.big_endian.specs.Bytes.{double_at}
-use Rattle.case_record.specs.Layout.{header_of, layout_of, length_of, pairs, perturbation_of}
+use Rattle.case_record.specs.Layout.{header_of, layout_of, length_of, l_pairs, pairs, perturbation_of}
 
 -- the doubles that follow n, counted from 0
 abbrev pub double : List ℕ → ℕ → Float
@@ -25,7 +25,7 @@ values (suc n) f = values n f ++ (f n ∷ [])
 abbrev pub row : ℕ → ℕ → (ℕ → Float) → List Float
 row size n f = values n f ++ replicate (size - n) zero_d
 
--- "n times rep, att, sigma, epsilon_k; k_ij for i below j, row by row"
+-- "n times rep, att, sigma, epsilon_k; k_ij for i below j, row by row"; and M-104: "the l_ij after the k_ij, i below j, row by row", where version 1 has +0
 unfoldable pub mixture_of : List ℕ → Header → Mixture
 mixture_of s h =
     let n = h.n in
@@ -36,6 +36,7 @@ mixture_of s h =
       sigma = row 8 n (column s 2 4);
       epsilon_k = row 8 n (column s 3 4);
       k_ij = row 28 (pairs n) (column s (layout_of h).k_ij 1);
+      l_ij = row 28 (l_pairs h) (column s (layout_of h).l_ij 1);
     }
 
 -- "temperature; n partial densities; n mole fractions"

@@ -3,7 +3,7 @@ ghost use Rattle.std.specs.Prelude.{◌≡◌, ℕ, ◌+◌, ◌*◌, ◌≤◌,
 ghost use Rattle.case_record.specs.Layout.{header_of};
 ghost use Rattle.case_record.specs.Record.{Whole, case_of, column, double, mixture_of, row, state_of, values};
 
-use crate::layout::{Header, header_of, layout_of, pairs, perturbation_of};
+use crate::layout::{Header, header_of, l_pairs, layout_of, pairs, perturbation_of};
 use big_endian::double_at;
 use uvtheory::components::Components;
 use uvtheory::eos::Perturbation;
@@ -62,13 +62,15 @@ impl<'a> WholeRecord<'a> {
     {
         let h = self.header;
         let n = Components::new(h.n);
+        let l = layout_of(h);
         Mixture {
             n,
             rep: self.row(0, 4, h.n),
             att: self.row(1, 4, h.n),
             sigma: self.row(2, 4, h.n),
             epsilon_k: self.row(3, 4, h.n),
-            k_ij: self.row(layout_of(h).k_ij, 1, pairs(n)),
+            k_ij: self.row(l.k_ij, 1, pairs(n)),
+            l_ij: self.row(l.l_ij, 1, l_pairs(h)),
         }
     }
 

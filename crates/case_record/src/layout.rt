@@ -1,6 +1,6 @@
 // The layout of a case record: its header, the places of its doubles, its length.
 ghost use Rattle.std.specs.Prelude.{◌≡◌, ◌≤◌, cond, length};
-ghost use Rattle.case_record.specs.Layout.{header_of, is_perturbation, layout_of, length_of, pairs, perturbation_of};
+ghost use Rattle.case_record.specs.Layout.{header_of, is_perturbation, layout_of, length_of, l_pairs, pairs, perturbation_of};
 
 use uvtheory::components::Components;
 use uvtheory::eos::Perturbation;
@@ -17,6 +17,7 @@ pub struct Header {
 #[derive(Clone, Copy, Debug, PartialEq, Eq)]
 pub struct Layout {
     pub k_ij: usize,
+    pub l_ij: usize,
     pub temperature: usize,
     pub partial_density: usize,
     pub molefracs: usize,
@@ -61,18 +62,32 @@ pub fn pairs(n: Components) -> usize
     n * n.saturating_sub(1) / 2
 }
 
+// How many l_ij there are: one for each pair in version 2, and none in version 1.
+pub fn l_pairs(h: Header) -> usize
+    requires { h.n ≤ 8 }
+    ensures { (result ≡ l_pairs h) × (result ≤ 28) }
+{
+    if h.version == 2 {
+        pairs(Components::new(h.n))
+    } else {
+        0
+    }
+}
+
 pub fn layout_of(h: Header) -> Layout
     requires { h.n ≤ 8 }
     ensures { result ≡ layout_of h }
 {
     let n = h.n;
     let k_ij = 4 * n;
-    let temperature = k_ij + pairs(Components::new(n));
+    let l_ij = k_ij + pairs(Components::new(n));
+    let temperature = l_ij + l_pairs(h);
     let partial_density = temperature + 1;
     let molefracs = partial_density + n;
     let doubles = molefracs + n;
     Layout {
         k_ij,
+        l_ij,
         temperature,
         partial_density,
         molefracs,

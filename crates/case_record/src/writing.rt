@@ -33,7 +33,7 @@ fn substance_double(m: &Mixture, k: usize) -> f64
 }
 
 // The k-th double of the record, counted from 0.
-#[tactic(auto, unfolding(crate::specs::Writing::double_of), using(crate::proofs::Sizes::few_pairs))]
+#[tactic(auto, unfolding(crate::specs::Writing::double_of), using(crate::proofs::Sizes::few_pairs, crate::proofs::Sizes::few_l_pairs))]
 fn double_of(c: &Contents, k: usize) -> f64
     requires { k < (layout_of c.now.header).doubles }
     ensures { result ≡ double_of c.now.header c.now.mixture c.now.state k }
@@ -42,8 +42,11 @@ fn double_of(c: &Contents, k: usize) -> f64
     if k < l.k_ij {
         return substance_double(&c.mixture, k);
     }
-    if k < l.temperature {
+    if k < l.l_ij {
         return c.mixture.k_ij[k - l.k_ij];
+    }
+    if k < l.temperature {
+        return c.mixture.l_ij[k - l.l_ij];
     }
     if k < l.partial_density {
         return c.state.temperature;
