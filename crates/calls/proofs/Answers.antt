@@ -46,8 +46,8 @@ stages kind s =
     let worked = arithmetic c ++ beyond kind c in
     let x = result_of kind c in
     sym (
-    in_stages (envelope s) ((substances c ++ state c) ++ worked) x
-    ∙ ap (result_and (first_failing (envelope s))) (in_stages (substances c) (state c ++ worked) x ∙ ap (result_and (first_failing (substances c))) (in_stages (state c) worked x))
+    in_stages (envelope 1 2 s) ((substances c ++ state c) ++ worked) x
+    ∙ ap (result_and (first_failing (envelope 1 2 s))) (in_stages (substances c) (state c ++ worked) x ∙ ap (result_and (first_failing (substances c))) (in_stages (state c) worked x))
     )
 
 -- ---- three values that are three others, one by one

@@ -57,5 +57,5 @@ slopes_beside s =
     let of_state = result_and (first_failing (state c)) in
     let of_substances = result_and (first_failing (substances c)) in
     rw (sym (stages ForEnergies s), sym (stages ForSlopes s))
-    (behind (first_failing (envelope s)) (of_substances (of_state energies)) (of_substances (of_state sloped))
+    (behind (first_failing (envelope 1 2 s)) (of_substances (of_state energies)) (of_substances (of_state sloped))
     (behind (first_failing (substances c)) (of_state energies) (of_state sloped) (behind (first_failing (state c)) energies sloped (of_case c))))

@@ -1,7 +1,7 @@
 -- The theorem on records: whatever the bytes, where the ends call has a result its ends hold.
 -- The operations keep what ends enclose (crate range, `certified`), so the formulas of the three perturbations do (crate eos, `as_sent`).
 use Prim.Native.Nat.{ℕ}
-use mathlib.Core.Path.{◌≡◌, refl, sym, subst, ◌∙◌}
+use mathlib.Core.Path.{◌≡◌, refl, sym, subst}
 use mathlib.Core.Bool.{true, false}
 use mathlib.Core.List.{List, [], ◌∷◌, ◌++◌}
 use native.Mathlib.Omega.{arith}
@@ -20,7 +20,7 @@ use Rattle.case_record.specs.Record.{case_of}
 use Rattle.std.specs.Prelude.{Ok as Passes}
 use Rattle.refusal.specs.declared.Refusal.{Refusal}
 use Rattle.checks.specs.Checks.{Checks, envelope, substances, state, first_failing}
-use Rattle.checks.proofs.Accepted.{all_passed, in_order}
+use Rattle.checks.proofs.Accepted.{all_passed, in_front, joined}
 use Rattle.answer.specs.declared.Answer.{Answer}
 use Rattle.answer.specs.declared.Answer.TheVariants.{Ends, Refused}
 use Rattle.calls.specs.declared.kinds.Kind.TheVariants.{Energies as ForEnergies, Ends as ForEnds}
@@ -55,7 +55,7 @@ three_ends e = (cc, cc, cc)
 -- no check refuses the record or its case, the energies are finite, and the ends are the case's
 pub record HasEnds (s : List ℕ) (h r a : Range) : Type 0 where
   pub has_energies : answer_of ForEnergies s ≡ result_of ForEnergies (case_of s)
-  pub of_record : first_failing (envelope s) ≡ Passes tt
+  pub of_record : first_failing (envelope 1 2 s) ≡ Passes tt
   pub are_ok : all ok (ends_of (case_of s)) ≡ true
   pub are : result_of ForEnds (case_of s) ≡ Ends h r a
 
@@ -66,22 +66,13 @@ passed_all [] x e = (refl, e)
 passed_all ((refusal, true) ∷ rest) x e = passed_all rest x e
 passed_all ((refusal, false) ∷ rest) x e = no_ends e
 
--- of the first tests, and of the others
-in_front : (a b : Checks) → first_failing (a ++ b) ≡ Passes tt → (first_failing a ≡ Passes tt) × (first_failing b ≡ Passes tt)
-in_front [] b e = (refl, e)
-in_front ((refusal, true) ∷ rest) b e = in_front rest b e
-in_front ((refusal, false) ∷ rest) b e = let z : ◌≡◌ {A = ℕ} 0 1 = cc in absurd (omega arith)
-
-joined : (a b : Checks) → first_failing a ≡ Passes tt → first_failing b ≡ Passes tt → first_failing (a ++ b) ≡ Passes tt
-joined a b e f = in_order a b ∙ rw (e, f)
-
-energies_behind : (s : List ℕ) → first_failing (envelope s) ≡ Passes tt → first_failing (substances (case_of s) ++ state (case_of s)) ≡ Passes tt → first_failing (arithmetic (case_of s)) ≡ Passes tt
+energies_behind : (s : List ℕ) → first_failing (envelope 1 2 s) ≡ Passes tt → first_failing (substances (case_of s) ++ state (case_of s)) ≡ Passes tt → first_failing (arithmetic (case_of s)) ≡ Passes tt
     → answer_of ForEnergies s ≡ result_of ForEnergies (case_of s)
 unfolding answer_of tested
 energies_behind s i j k =
     let c = case_of s in
     let e : first_failing (order ForEnergies s) ≡ Passes tt =
-    joined (envelope s) ((substances c ++ state c) ++ arithmetic c ++ []) i (joined (substances c ++ state c) (arithmetic c ++ []) j (joined (arithmetic c) [] k refl)) in
+    joined (envelope 1 2 s) ((substances c ++ state c) ++ arithmetic c ++ []) i (joined (substances c ++ state c) (arithmetic c ++ []) j (joined (arithmetic c) [] k refl)) in
     rw e
 
 has_ends : (s : List ℕ) {h r a : Range} → answer_of ForEnds s ≡ Ends h r a → HasEnds s h r a
@@ -89,7 +80,7 @@ unfolding answer_of
 has_ends s e =
     let c = case_of s in
     let (all_pass, are) = passed_all (order ForEnds s) (result_of ForEnds c) e in
-    let (of_record, behind) = in_front (envelope s) ((substances c ++ state c) ++ arithmetic c ++ beyond ForEnds c) all_pass in
+    let (of_record, behind) = in_front (envelope 1 2 s) ((substances c ++ state c) ++ arithmetic c ++ beyond ForEnds c) all_pass in
     let (of_case, of_worked) = in_front (substances c ++ state c) (arithmetic c ++ beyond ForEnds c) behind in
     let (_, (are_ok, _)) = all_passed (arithmetic c ++ beyond ForEnds c) of_worked in
     record {

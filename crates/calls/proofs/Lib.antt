@@ -2,3 +2,4 @@
 pub mod Answers
 pub mod Guarantee
 pub mod Beside
+pub mod VersionOne

@@ -53,7 +53,7 @@ beyond ForEnds c = (Due.Ends, all Range.ok (ends_of c)) ∷ []
 beyond ForSlopes c = (Due.Slopes, all Dual.ok (slopes_of c)) ∷ []
 
 abbrev pub order : Kind → List ℕ → Checks
-order kind s = let c = case_of s in envelope s ++ (substances c ++ state c) ++ arithmetic c ++ beyond kind c
+order kind s = let c = case_of s in envelope 1 2 s ++ (substances c ++ state c) ++ arithmetic c ++ beyond kind c
 
 -- ---- "The answer of a case is either the three energies or one number of refusal."
 abbrev pub result_of : Kind → Case → Answer
@@ -81,4 +81,4 @@ answer_of kind s = answered (tested (order kind s) (result_of kind (case_of s)))
 abbrev pub staged : Kind → List ℕ → Result Answer Refusal
 staged kind s =
     let c = case_of s in
-    result_and (first_failing (envelope s)) (result_and (first_failing (substances c)) (result_and (first_failing (state c)) (worked_of kind c)))
+    result_and (first_failing (envelope 1 2 s)) (result_and (first_failing (substances c)) (result_and (first_failing (state c)) (worked_of kind c)))

@@ -79,7 +79,7 @@ fn slopes_of(c: &Case) -> Result<Answer, Refusal>
 fn worked(kind: Kind, record: &[u8]) -> Result<Answer, Refusal>
     ensures { result ≡ staged kind «record».now }
 {
-    envelope(record)?;
+    envelope(1, 2, record)?;
     let c = case_of(record);
     substances(&c)?;
     state(&c)?;

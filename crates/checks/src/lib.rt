@@ -5,13 +5,14 @@ ghost use Rattle.std.specs.Prelude.{◌≡◌, ◌≤◌, [], ◌∷◌, length}
 ghost use Rattle.std.specs.List.{list_all};
 ghost use Rattle.arithmetic.specs.Doubles.{guarded};
 ghost use Rattle.uvtheory.specs.Rows.{doubles};
-ghost use Rattle.checks.specs.Checks.{all_inside, attraction_fits, envelope, first_failing, inside, state, state_inside, substances, substances_inside};
+ghost use Rattle.checks.specs.Checks.{all_first, all_inside, attraction_fits, envelope, first_failing, inside, pair_constants, plus_zero, state, state_inside, substances, substances_inside};
 
 use big_endian::big_endian2;
 use case_record::case::Case;
 use case_record::layout::{header_of, length_of, pairs, perturbation_named};
 use num_dual::double::Double;
 use refusal::Refusal;
+use std::num::f64_to_bits_with_nan;
 use uvtheory::arrays::constants;
 use uvtheory::components::Components;
 use uvtheory::eos::Perturbation;
@@ -34,6 +35,8 @@ const SIGMA: Interval = Interval(0.5, 10.0);
 const EPSILON_K: Interval = Interval(0.1, 5000.0);
 
 const K_IJ: Interval = Interval(-0.9, 0.9);
+
+const L_IJ: Interval = Interval(-0.5, 0.5);
 
 const TEMPERATURE: Interval = Interval(1.0, 5000.0);
 
@@ -78,6 +81,7 @@ fn substances_inside(m: &Mixture) -> bool
         & SIGMA.contains_first(n, &m.sigma)
         & EPSILON_K.contains_first(n, &m.epsilon_k)
         & K_IJ.contains_first(pairs(m.n), &m.k_ij)
+        & L_IJ.contains_first(pairs(m.n), &m.l_ij)
 }
 
 // Whether each att is one that the perturbation is worked for.
@@ -116,15 +120,18 @@ pub fn require(passes: bool, refusal: Refusal) -> Result<(), Refusal>
     if passes { Ok(()) } else { Err(refusal) }
 }
 
-// The codes 2 to 6. Only the bytes that the checks before have shown to be there are read.
-pub fn envelope(record: &[u8]) -> Result<(), Refusal>
-    ensures { result ≡ first_failing (envelope «record».now) }
+// The codes 2 to 6, where the versions from `oldest` to `newest` pass. Only the bytes that the checks before have shown to be there are read.
+pub fn envelope(oldest: u8, newest: u8, record: &[u8]) -> Result<(), Refusal>
+    ensures { result ≡ first_failing (envelope oldest newest «record».now) }
 {
     require(record.len() >= 5, Refusal::Envelope)?;
     let length = big_endian2(record, 0);
     require(length == record.len() - 2, Refusal::Envelope)?;
     let h = header_of(record);
-    require(h.version == 1, Refusal::Version)?;
+    require(
+        (oldest <= h.version) & (h.version <= newest),
+        Refusal::Version,
+    )?;
     require(
         perturbation_named(h.perturbation).is_some(),
         Refusal::Perturbation,
@@ -149,4 +156,28 @@ pub fn state(c: &Case) -> Result<(), Refusal>
     ensures { result ≡ first_failing (state c.now) }
 {
     require(state_inside(c.mixture.n, &c.state), Refusal::State)
+}
+
+// Whether each of several values is +0, by its bits.
+fn all_plus_zero(values: &[f64]) -> bool
+    ensures { result ≡ list_all plus_zero values.now }
+{
+    values.iter().all(|x| f64_to_bits_with_nan(*x) == 0)
+}
+
+// Whether each of the first n is.
+#[tactic(auto, using(crate::proofs::Inside::of_the_first))]
+fn first_plus_zero(n: usize, values: &[f64]) -> bool
+    requires { n ≤ length values.now }
+    ensures { result ≡ all_first plus_zero n values.now }
+{
+    all_plus_zero(&values[..n])
+}
+
+// The code 13.
+pub fn pair_constants(c: &Case) -> Result<(), Refusal>
+    ensures { result ≡ first_failing (pair_constants c.now) }
+{
+    let m = &c.mixture;
+    require(first_plus_zero(pairs(m.n), &m.l_ij), Refusal::PairConstant)
 }
