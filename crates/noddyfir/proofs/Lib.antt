@@ -2,4 +2,5 @@
 pub mod Sizes
 pub mod Running
 pub mod Apart
+pub mod Moved
 pub mod Cases

@@ -4,6 +4,7 @@
 ghost use Rattle.std.specs.Prelude.{◌≡◌, ◌≤◌, length};
 ghost use Rattle.noddyfir.specs.Call.{call_buffer, call_code, code_to, ends_answer, energies_answer, slopes_answer};
 ghost use Rattle.noddyfir.specs.Run.{run_of};
+ghost use Rattle.moves.specs.Moves.{move_buffer, move_code};
 ghost use Rattle.calls.specs.declared.kinds.Kind.TheVariants as Kinds;
 
 use noddyfir::run::Run;
@@ -51,4 +52,18 @@ pub extern "C" fn noddyfir_run_slopes(records: &[u8], answers: &mut [u8]) -> Run
     ensures within { (result.read ≤ length records.now) × (result.written ≤ length answers.new) }
 {
     noddyfir::run_slopes(records, answers)
+}
+
+#[unsafe(no_mangle)]
+pub extern "C" fn noddyfir_to_version_2(record: &[u8], out: &mut [u8]) -> u8
+    ensures { (result ≡ move_code 1 2 «record».now out.old) × (out.new ≡ move_buffer 1 2 «record».now out.old) }
+{
+    noddyfir::to_version_2(record, out)
+}
+
+#[unsafe(no_mangle)]
+pub extern "C" fn noddyfir_to_version_1(record: &[u8], out: &mut [u8]) -> u8
+    ensures { (result ≡ move_code 2 1 «record».now out.old) × (out.new ≡ move_buffer 2 1 «record».now out.old) }
+{
+    noddyfir::to_version_1(record, out)
 }

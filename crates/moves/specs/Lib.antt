@@ -1,0 +1,3 @@
+-- What document 02 says of moves.
+pub mod Moves
+pub mod Promise
