@@ -10,7 +10,7 @@ typedef uint8_t Call(const uint8_t *record, size_t record_size, uint8_t *answer,
 Call before_noddyfir_energies, before_noddyfir_ends;
 extern __attribute__((weak)) Call before_noddyfir_slopes;
 
-enum { ENDS = 1, KINDS = 3, RECORDS = 256, ROUNDS = 31, LONGEST = 700, ROOM = 52 };
+enum { ENDS = 1, KINDS = 3, RECORDS = 256, ROUNDS = 31, LONGEST = NODDYFIR_RECORD_SIZE_MAX, ROOM = 52 };
 
 static Call *const calls[KINDS][2] = {
     {before_noddyfir_energies, noddyfir_energies},
@@ -45,9 +45,11 @@ static int same(int kind, const uint8_t codes[2], uint8_t answer[2][ROOM])
     return codes[0] == codes[1] && ((kind == ENDS && only_codes_of_ends) || memcmp(answer[0], answer[1], ROOM) == 0);
 }
 
-// Both builds must give the same answer; a record without ends or slopes is passed over.
+// Both builds must give the same answer; a record without ends or slopes is passed over, and one of version 2, which a build before M-104 refuses.
 static void keep(const uint8_t *record, size_t size)
 {
+    if (record[2] != 1)
+        return;
     for (int i = 0; i < 12; i++) {
         struct Row *row = &rows[i];
         if (record[3] != row->perturbation || record[4] != row->n || row->count == RECORDS)

@@ -47,7 +47,7 @@ pub const KEPT: (&str, &str, &str) =
     ("uvtheory/eos/mod.rs", "mod bh;", "/// Configuration options for uv-theory");
 
 /// Passages: the file, its text (there exactly once) and what stands there instead.
-pub const PASSAGES: [(&str, &str, &str); 7] = [
+pub const PASSAGES: [(&str, &str, &str); 10] = [
     ("uvtheory/parameters.rs", "use serde::{Deserialize, Serialize};\n", ""),
     ("uvtheory/parameters.rs", ", Serialize, Deserialize)]", ")]"),
     // BH coefficients are worked for BH records only,
@@ -64,6 +64,27 @@ pub const PASSAGES: [(&str, &str, &str); 7] = [
         "",
     ),
     ("uvtheory/parameters.rs", "            cd_bh_binary,\n", ""),
+    // M-104: a pair has k_ij and l_ij, which is none where the double that was sent is 0,
+    (
+        "uvtheory/parameters.rs",
+        "Parameters<UVTheoryRecord, f64, ()>",
+        "Parameters<UVTheoryRecord, (f64, Option<f64>), ()>",
+    ),
+    (
+        "uvtheory/parameters.rs",
+        "        let [k_ij] = parameters.collate_binary(|&br| [br]);\n",
+        "        let [k_ij] = parameters.collate_binary(|&(k_ij, _)| [k_ij]);
+        let [l_ij] = parameters.collate_binary(|&(_, l_ij)| [l_ij]);\n",
+    ),
+    // and only where there is one, sigma_ij has two operations more.
+    (
+        "uvtheory/parameters.rs",
+        "                sigma_ij[(i, j)] = 0.5 * (sigma[i] + sigma[j]);\n",
+        "                sigma_ij[(i, j)] = 0.5 * (sigma[i] + sigma[j]);
+                if let Some(l_ij) = l_ij[(i, j)] {
+                    sigma_ij[(i, j)] = (1.0 - l_ij) * sigma_ij[(i, j)];
+                }\n",
+    ),
     // A cast to a type of our own.
     (
         "uvtheory/eos/wca/attractive_perturbation_uvb3.rs",

@@ -52,8 +52,12 @@ pub fn combined(case: &Case) -> UVTheoryPars {
         UVTheoryRecord::new(rep, att, sigma, epsilon_k)
     });
     let n = case.substances.len();
-    let k_ij = DMatrix::from_fn(n, n, |i, j| Number::point(case.k_ij(i, j)));
-    UVTheoryPars::new(&Parameters::new(pure.collect(), k_ij), perturbation)
+    let pairs = DMatrix::from_fn(n, n, |i, j| {
+        // By the double that was sent, before it is a number of any kind.
+        let l_ij = Some(case.l_ij(i, j)).filter(|&l_ij| l_ij != 0.0);
+        (Number::point(case.k_ij(i, j)), l_ij.map(Number::point))
+    });
+    UVTheoryPars::new(&Parameters::new(pure.collect(), pairs), perturbation)
 }
 
 /// Along total density each partial density has the slope of its own fraction.

@@ -8,6 +8,7 @@ pub mod dual;
 pub mod failure;
 pub mod figures;
 pub mod generator;
+pub mod moves;
 pub mod program;
 pub mod random;
 pub mod range;

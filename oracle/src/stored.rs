@@ -1,6 +1,6 @@
 //! A fixed list of records that covers the cases of documents 01 and 02, within the 65,536 bytes of a run.
 
-use crate::record::{Case, framed, interval};
+use crate::record::{Case, framed, interval, pairs};
 
 /// All records one after the other.
 pub fn records() -> Vec<u8> {
@@ -14,6 +14,8 @@ pub fn records() -> Vec<u8> {
         without_rule(),
         thresholds(),
         steep(),
+        second_constants(),
+        versions(),
     ];
     parts.concat().concat()
 }
@@ -42,7 +44,8 @@ fn mixture(perturbation: u8, n: usize, temperature: f64, density: f64) -> Case {
     Case {
         perturbation,
         substances,
-        pairs: (0..n * (n - 1) / 2).map(|pair| 0.01 * pair as f64 - 0.05).collect(),
+        k_ij: (0..pairs(n)).map(|pair| 0.01 * pair as f64 - 0.05).collect(),
+        l_ij: None,
         temperature,
         partial_density: molefracs.iter().map(|x| x * density).collect(),
         molefracs,
@@ -61,9 +64,9 @@ fn malformed() -> Vec<Vec<u8>> {
         body[at] = byte;
         body
     };
-    let short: [&[u8]; 7] = [&[], &[1], &[1, 0], &[9, 9], &[1, 0, 0], &[1, 0, 1], &[2, 3, 0]];
+    let short: [&[u8]; 7] = [&[], &[1], &[1, 0], &[9, 9], &[1, 0, 0], &[1, 0, 1], &[3, 3, 0]];
     let mut bodies: Vec<Vec<u8>> = short.map(<[u8]>::to_vec).to_vec();
-    bodies.extend([0, 2, 255].map(|version| changed(0, version)));
+    bodies.extend([0, 3, 255].map(|version| changed(0, version)));
     bodies.extend([3, 16, 255].map(|perturbation| changed(1, perturbation)));
     bodies.extend([0, 2, 8, 9, 255].map(|n| changed(2, n)));
     bodies.push(whole[..whole.len() - 1].to_vec());
@@ -103,7 +106,7 @@ fn with_field(perturbation: u8, place: usize, value: f64) -> Vec<u8> {
     let mut case = mixture(perturbation, 2, 300.0, 0.002);
     match place {
         4..8 => case.substances[1][place - 4] = value,
-        8 => case.pairs[0] = value,
+        8 => case.k_ij[0] = value,
         9 => case.temperature = value,
         11 => case.partial_density[1] = value,
         _ => case.molefracs = vec![1.0 - value, value],
@@ -139,7 +142,7 @@ fn attractions() -> Vec<Vec<u8>> {
             records.push(case.record());
             case.temperature = 0.5;
             records.push(case.record());
-            case.pairs[2] = 1.0;
+            case.k_ij[2] = 1.0;
             records.push(case.record());
         }
         let mut absent = mixture(perturbation, 2, 300.0, 0.002);
@@ -226,4 +229,48 @@ fn steep() -> Vec<Vec<u8>> {
         records.push(case.record());
     }
     records
+}
+
+/// A mixture of version 2; `l_ij` has one for each of its pairs.
+fn with_l_ij(perturbation: u8, n: usize, l_ij: &[f64]) -> Case {
+    Case { l_ij: Some(l_ij.to_vec()), ..mixture(perturbation, n, 300.0, 0.002) }
+}
+
+/// l_ij inside, as zeros of both signs, at the limits and beyond them; of one pair among others; code 7
+/// before 12.
+fn second_constants() -> Vec<Vec<u8>> {
+    let mut records = Vec::new();
+    let [least, greatest] = interval::L_IJ;
+    for perturbation in PERTURBATIONS {
+        for n in [1, 3, 8] {
+            let l_ij: Vec<f64> = (0..pairs(n)).map(|pair| 0.01 * pair as f64 - 0.1).collect();
+            records.push(with_l_ij(perturbation, n, &l_ij).record());
+        }
+        for l_ij in [0.02, 0.0, -0.0, f64::from_bits(1), least, greatest] {
+            records.push(with_l_ij(perturbation, 2, &[l_ij]).record());
+        }
+        for l_ij in [[0.0, 0.1, -0.0], [-0.0, 0.0, 0.6]] {
+            let mut case = with_l_ij(perturbation, 3, &l_ij);
+            records.push(case.record());
+            case.substances[1][1] = 5.5;
+            records.push(case.record());
+        }
+    }
+    let beyond = [least.next_down(), greatest.next_up(), f64::NAN, f64::NEG_INFINITY];
+    records.extend(beyond.map(|l_ij| with_l_ij(1, 2, &[l_ij]).record()));
+    records
+}
+
+/// Codes 3 and 6 of versions and bodies that do not belong together, and what tells that code 3 passed.
+fn versions() -> Vec<Vec<u8>> {
+    let first = mixture(0, 2, 300.0, 0.002).record().split_off(2);
+    let second = with_l_ij(0, 2, &[0.02]).record().split_off(2);
+    let mut bodies = Vec::new();
+    for body in [&first, &second] {
+        bodies.extend([0, 1, 2, 3, 255].map(|version| [&[version], &body[1..]].concat()));
+    }
+    bodies.push([&second[..], &[0; 8]].concat());
+    bodies.push(vec![2, 3, 9]);
+    bodies.push(vec![2, 0, 1]);
+    bodies.iter().map(|body| framed(body)).collect()
 }

@@ -23,7 +23,8 @@ fn pure(perturbation: u8, rep: f64) -> Case {
     Case {
         perturbation,
         substances: vec![[rep, 6.0, 3.405, 119.8]],
-        pairs: vec![],
+        k_ij: vec![],
+        l_ij: None,
         temperature: 150.3,
         partial_density: vec![0.0123],
         molefracs: vec![1.0],

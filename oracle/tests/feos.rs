@@ -20,7 +20,8 @@ fn helmholtz_energy(
     let case = Case {
         perturbation,
         substances: components.iter().map(|(substance, _)| *substance).collect(),
-        pairs: vec![0.0; n * (n - 1) / 2],
+        k_ij: vec![0.0; n * (n - 1) / 2],
+        l_ij: None,
         temperature,
         partial_density: molefracs.iter().map(|x| x * density).collect(),
         molefracs,

@@ -17,7 +17,8 @@ fn argon_and_methane(perturbation: u8) -> Case {
     Case {
         perturbation,
         substances: vec![[12.26, 6.0, 3.41, 118.0], [12.65, 6.0, 3.74, 153.5]],
-        pairs: vec![0.01],
+        k_ij: vec![0.01],
+        l_ij: None,
         temperature: 251.0,
         partial_density: vec![0.004, 0.006],
         molefracs: vec![0.4, 0.6],
@@ -59,7 +60,8 @@ fn nothing_is_found_where_a_bracket_holds_zero() {
     for density in [0.4, 0.4_f64.next_up(), 0.4_f64.next_down()] {
         let case = Case {
             substances: vec![[12.65, 6.0, 1.0, 153.5]],
-            pairs: vec![],
+            k_ij: vec![],
+            l_ij: None,
             partial_density: vec![density],
             molefracs: vec![1.0],
             ..argon_and_methane(2)

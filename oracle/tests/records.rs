@@ -8,11 +8,17 @@ fn argon(perturbation: u8, n: usize) -> Case {
     Case {
         perturbation,
         substances: vec![[12.26, 6.0, 3.41, 118.0]; n],
-        pairs: vec![0.0; n * (n - 1) / 2],
+        k_ij: vec![0.0; n * (n - 1) / 2],
+        l_ij: None,
         temperature: 310.0,
         partial_density: vec![0.001; n],
         molefracs: vec![1.0 / n as f64; n],
     }
+}
+
+/// Version 2, with the same l_ij of each pair.
+fn with_l_ij(n: usize, l_ij: f64) -> Case {
+    Case { l_ij: Some(vec![l_ij; n * (n - 1) / 2]), ..argon(1, n) }
 }
 
 /// The code of the energies call, also read from the answer, whose rest must be untouched.
@@ -35,24 +41,42 @@ fn changed(change: impl Fn(&mut Case)) -> u8 {
 fn lengths() {
     let lengths = [1, 2, 8].map(|n| length(&argon(0, n).record()));
     assert_eq!(lengths, [59, 115, 619]);
+    let lengths = [1, 2, 8].map(|n| length(&with_l_ij(n, 0.0).record()));
+    assert_eq!(lengths, [59, 123, 843]);
 }
 
 #[test]
 fn a_record_is_read_as_written() {
     let mut case = argon(2, 4);
-    case.pairs = vec![0.1, 0.2, 0.3, 0.4, 0.5, 0.6];
+    case.k_ij = vec![0.1, 0.2, 0.3, 0.4, 0.5, 0.6];
     assert_eq!(read(&case.record()), Ok(case.clone()));
     let row_by_row = [(0, 1), (0, 2), (0, 3), (1, 2), (1, 3), (2, 3)];
-    for ((i, j), k) in row_by_row.into_iter().zip(&case.pairs) {
+    for ((i, j), k) in row_by_row.into_iter().zip(&case.k_ij) {
         assert_eq!((case.k_ij(i, j), case.k_ij(j, i)), (*k, *k));
+        assert_eq!((case.l_ij(i, j), case.l_ij(j, i)), (0.0, 0.0));
     }
+    case.l_ij = Some(vec![-0.1, -0.2, -0.3, -0.4, -0.5, 0.5]);
+    assert_eq!(read(&case.record()), Ok(case.clone()));
+    for ((i, j), l) in row_by_row.into_iter().zip(case.l_ij.iter().flatten()) {
+        assert_eq!((case.l_ij(i, j), case.l_ij(j, i)), (*l, *l));
+    }
+}
+
+#[test]
+fn l_ij_stand_directly_behind_k_ij() {
+    let case = Case { l_ij: Some(vec![0.25]), ..argon(1, 2) };
+    let (first, second) = (argon(1, 2).record(), case.record());
+    assert_eq!((first[2], second[2]), (1, 2));
+    let behind = 5 + 8 * 9;
+    assert_eq!(second[behind..behind + 8], 0.25_f64.to_be_bytes());
+    assert_eq!([&first[3..behind], &first[behind..]], [&second[3..behind], &second[behind + 8..]]);
 }
 
 #[test]
 fn combining() {
     let case = Case {
         substances: vec![[9.0, 6.0, 3.0, 100.0], [16.0, 6.0, 4.0, 400.0]],
-        pairs: vec![0.25],
+        k_ij: vec![0.25],
         ..argon(1, 2)
     };
     let p = combined(&case);
@@ -82,35 +106,67 @@ fn envelope_to_size() {
     {
         assert_eq!(energies_code(record), code::ENVELOPE);
     }
-    assert_eq!(energies_code(&[0, 3, 2, 3, 9]), code::VERSION);
-    assert_eq!(energies_code(&[0, 3, 1, 3, 9]), code::PERTURBATION);
-    assert_eq!(energies_code(&[0, 3, 1, 2, 9]), code::COMPONENTS);
-    assert_eq!(energies_code(&[0, 3, 1, 2, 8]), code::SIZE);
+    for version in [0, 3, 255] {
+        assert_eq!(energies_code(&[0, 3, version, 3, 9]), code::VERSION);
+    }
+    for version in [1, 2] {
+        assert_eq!(energies_code(&[0, 3, version, 3, 9]), code::PERTURBATION);
+        assert_eq!(energies_code(&[0, 3, version, 2, 9]), code::COMPONENTS);
+        assert_eq!(energies_code(&[0, 3, version, 2, 8]), code::SIZE);
+    }
     assert_eq!([with(2, 0), with(3, 3), with(4, 0), with(4, 2)], [3, 4, 5, 6]);
+    // One component has no pair, and so the same size in both versions.
+    assert_eq!([with(2, 2), with(2, 3)], [0, 3]);
+}
+
+#[test]
+fn the_size_is_that_of_the_version() {
+    for n in 2..=8 {
+        let (mut first, mut second) = (argon(1, n).record(), with_l_ij(n, 0.0).record());
+        assert_eq!([energies_code(&first), energies_code(&second)], [0, 0]);
+        (first[2], second[2]) = (2, 1);
+        assert_eq!([energies_code(&first), energies_code(&second)], [code::SIZE; 2]);
+    }
+}
+
+#[test]
+fn l_ij_lies_in_its_interval() {
+    for l_ij in [-0.5, 0.5, 0.0, -0.0, 0.02] {
+        assert_eq!(energies_code(&with_l_ij(3, l_ij).record()), 0);
+    }
+    for l_ij in [(-0.5_f64).next_down(), 0.5_f64.next_up(), f64::NAN, f64::INFINITY] {
+        let mut case = with_l_ij(3, 0.0);
+        case.l_ij = Some(vec![0.0, 0.0, l_ij]);
+        assert_eq!(energies_code(&case.record()), code::SUBSTANCES);
+        (case.perturbation, case.substances[1][1]) = (0, 5.5);
+        assert_eq!(energies_code(&case.record()), code::SUBSTANCES);
+    }
 }
 
 #[test]
 fn substances_before_state() {
     assert_eq!(changed(|case| case.temperature = f64::NAN), code::STATE);
-    assert_eq!(changed(|case| case.pairs[0] = 0.9_f64.next_up()), code::SUBSTANCES);
+    assert_eq!(changed(|case| case.k_ij[0] = 0.9_f64.next_up()), code::SUBSTANCES);
     let both = |case: &mut Case| (case.temperature, case.substances[1][3]) = (0.5, 0.05);
     assert_eq!(changed(both), code::SUBSTANCES);
 }
 
+type Change = fn(&mut Case);
+
 #[test]
 fn attraction_six_for_bh_between_substances_and_state() {
-    let code = |perturbation, at: usize, att: f64, change: fn(&mut Case)| {
+    let code = |perturbation, at: usize, att: f64, change: Change| {
         let mut case = argon(perturbation, 2);
         case.substances[at][1] = att;
         change(&mut case);
         energies_code(&case.record())
     };
-    let (none, state): (fn(&mut Case), fn(&mut Case)) = (|_| (), |case| case.temperature = 0.5);
+    let (none, state): (Change, Change) = (|_| (), |case| case.temperature = 0.5);
     for (at, att) in [(0, 6.0_f64.next_down()), (1, 6.0_f64.next_up()), (1, 5.0), (0, 7.0)] {
         assert_eq!([0, 1, 2].map(|p| code(p, at, att, none)), [code::ATTRACTION, 0, 0]);
         assert_eq!(code(0, at, att, state), code::ATTRACTION);
         assert_eq!(code(1, at, att, state), code::STATE);
-        assert_eq!(code(0, at, att, |case| case.pairs[0] = 1.0), code::SUBSTANCES);
+        assert_eq!(code(0, at, att, |case| case.k_ij[0] = 1.0), code::SUBSTANCES);
     }
     assert_eq!(code(0, 1, 6.0, none), 0);
     assert_eq!(code(0, 1, f64::NAN, none), code::SUBSTANCES);

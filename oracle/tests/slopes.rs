@@ -157,7 +157,8 @@ fn pure(perturbation: u8, [rep, att, sigma, epsilon_k]: [f64; 4], t: f64, densit
     Case {
         perturbation,
         substances: vec![[rep, att, sigma, epsilon_k]],
-        pairs: vec![],
+        k_ij: vec![],
+        l_ij: None,
         temperature: t,
         partial_density: vec![density],
         molefracs: vec![1.0],
@@ -248,7 +249,8 @@ fn fractions_of_zero() {
         let case = |zero: f64, density: f64| Case {
             perturbation,
             substances: vec![METHANE, [12.26, 6.0, 3.41, 118.0]],
-            pairs: vec![0.01],
+            k_ij: vec![0.01],
+            l_ij: None,
             temperature: 250.0,
             partial_density: vec![density, 0.001],
             molefracs: vec![1.0, zero],

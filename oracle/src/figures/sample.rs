@@ -74,7 +74,8 @@ fn case(rep: [f64; 2], perturbation: u8, state: &State) -> Case {
     Case {
         perturbation,
         substances: vec![substance(0), substance(1)],
-        pairs: vec![state.k_ij],
+        k_ij: vec![state.k_ij],
+        l_ij: None,
         temperature: state.temperature,
         partial_density: molefracs.iter().map(|x| x * state.density).collect(),
         molefracs,

@@ -7,7 +7,8 @@ use crate::record::framed;
 pub fn record(random: &mut Random) -> Vec<u8> {
     let make = random.pick(&[realistic::case, wide::case, limits::case]);
     let mut body = make(random).record().split_off(2);
-    let damage = random.pick(&[flip, cut, extend, change_head, replace]);
+    let damages = [flip, cut, extend, change_head, change_version, change_pairs, replace];
+    let damage = random.pick(&damages);
     damage(random, &mut body);
     framed(&body)
 }
@@ -36,6 +37,19 @@ fn extend(random: &mut Random, body: &mut Vec<u8>) {
 fn change_head(random: &mut Random, body: &mut Vec<u8>) {
     let at = random.below(3);
     body[at] = random.pick(&[0, 1, 2, 3, 4, 8, 9, 16, 255]);
+}
+
+/// A version on the body of its own or of another one.
+#[allow(clippy::ptr_arg)]
+fn change_version(random: &mut Random, body: &mut Vec<u8>) {
+    body[0] = random.pick(&[0, 1, 2, 3]);
+}
+
+/// A constant of a pair too few or too many. One component has none: then its temperature is missing.
+fn change_pairs(random: &mut Random, body: &mut Vec<u8>) {
+    let first = 3 + 32 * usize::from(body[2]);
+    let (removed, added) = random.pick(&[(8, &[][..]), (0, &[0; 8])]);
+    body.splice(first..first + removed, added.iter().copied());
 }
 
 /// Bytes of no meaning, few of them.

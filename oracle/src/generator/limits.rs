@@ -22,11 +22,13 @@ pub fn case(random: &mut Random) -> Case {
 /// Every field with its interval.
 fn fields(case: &mut Case) -> Vec<(&mut f64, [f64; 2])> {
     let substances = case.substances.iter_mut().flat_map(|s| s.iter_mut().zip(interval::SUBSTANCE));
-    let pairs = case.pairs.iter_mut().map(|k| (k, interval::K_IJ));
+    let k_ij = case.k_ij.iter_mut().map(|k| (k, interval::K_IJ));
+    let l_ij = case.l_ij.iter_mut().flatten().map(|l| (l, interval::L_IJ));
     let densities = case.partial_density.iter_mut().map(|v| (v, interval::DENSITY));
     let fractions = case.molefracs.iter_mut().map(|v| (v, interval::FRACTION));
     let temperature = [(&mut case.temperature, interval::TEMPERATURE)];
-    substances.chain(pairs).chain(temperature).chain(densities).chain(fractions).collect()
+    let state = temperature.into_iter().chain(densities).chain(fractions);
+    substances.chain(k_ij).chain(l_ij).chain(state).collect()
 }
 
 /// The limits twice, since only they and their inner neighbours pass.

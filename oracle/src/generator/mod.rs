@@ -9,7 +9,7 @@ mod thresholds;
 mod wide;
 
 use crate::random::Random;
-use crate::record::Case;
+use crate::record::{Case, pairs};
 
 /// The kinds of record by name.
 pub const KINDS: [(&str, Kind); 8] = [
@@ -30,17 +30,20 @@ pub fn kind(name: &str) -> Option<Kind> {
     KINDS.iter().find(|(known, _)| *known == name).map(|(_, kind)| *kind)
 }
 
-/// A mixture in a state, before its densities are scaled to its substances.
+/// A mixture in a state, before its densities are scaled to its substances; one in two has l_ij, and so is
+/// of version 2.
 fn mixture(
     random: &mut Random,
     substance: impl Fn(&mut Random) -> [f64; 4],
     k_ij: impl Fn(&mut Random) -> f64,
+    l_ij: impl Fn(&mut Random) -> f64,
 ) -> Case {
     let n = 1 + random.below(8);
     let mut case = Case {
         perturbation: random.below(3) as u8,
         substances: (0..n).map(|_| substance(random)).collect(),
-        pairs: (0..n * (n - 1) / 2).map(|_| k_ij(random)).collect(),
+        k_ij: (0..pairs(n)).map(|_| k_ij(random)).collect(),
+        l_ij: random.once_in(2).then(|| (0..pairs(n)).map(|_| l_ij(random)).collect()),
         temperature: 300.0,
         partial_density: vec![0.0; n],
         molefracs: fractions(random, n),

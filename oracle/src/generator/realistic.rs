@@ -16,7 +16,7 @@ const SUBSTANCES: [[f64; 4]; 6] = [
 
 pub fn case(random: &mut Random) -> Case {
     let k_ij = |random: &mut Random| random.pick(&[0.0, 0.0, 0.02, -0.015, 0.1]);
-    let mut case = mixture(random, substance, k_ij);
+    let mut case = mixture(random, substance, k_ij, l_ij);
     case.temperature = random.between([75.0, 600.0]);
     let dilute = random.once_in(3);
     let reduced_density = random.unit() * if dilute { 0.01 } else { 0.9 };
@@ -26,6 +26,12 @@ pub fn case(random: &mut Random) -> Case {
         case.partial_density.iter_mut().for_each(|density| *density *= random.unit());
     }
     case
+}
+
+/// Mostly 0, else some hundredths of either sign.
+fn l_ij(random: &mut Random) -> f64 {
+    let some = random.between([0.01, 0.1]);
+    random.pick(&[0.0, 0.0, -0.0, some, -some])
 }
 
 /// One of the substances, changed by a few parts in a hundred; att is mostly 6.

@@ -75,7 +75,8 @@ fn cold(random: &mut Random, case: &mut Case) {
     let epsilon_k = random.between([710.0, 4900.0]);
     let sigma = random.between([2.0, 10.0]);
     case.substances.iter_mut().for_each(|s| (s[2], s[3]) = (sigma, epsilon_k));
-    case.pairs.fill(0.0);
+    case.k_ij.fill(0.0);
+    case.l_ij.iter_mut().for_each(|l_ij| l_ij.fill(0.0));
     case.temperature = epsilon_k / random.between([680.0, 700.0]);
     let reduced_density = random.pick(&[0.0, 1e-9, 1e-3, 0.5]) * random.unit();
     set_density(case, reduced_density);

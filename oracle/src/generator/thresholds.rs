@@ -8,7 +8,7 @@ use crate::record::{Case, interval};
 pub fn case(random: &mut Random) -> Case {
     // Equal substances, so that the values of the mixture are those of each up to rounding.
     let one = substance(random);
-    let mut case = mixture(random, |_| one, |_| 0.0);
+    let mut case = mixture(random, |_| one, |_| 0.0, l_ij);
     set_density(&mut case, random.unit() * 0.9);
     let threshold = random.pick(&[
         reduced_temperature,
@@ -29,6 +29,11 @@ fn substance(random: &mut Random) -> [f64; 4] {
     let rep = random.pick(&[8.0, 12.0, 12.26, 12.65, 13.0, 24.0, 48.0]);
     let att = random.pick(&[6.0, 6.0, 5.0, 7.0]);
     [rep, att, random.between([0.5, 4.0]), random.between([0.2, 25.0])]
+}
+
+/// Mostly 0, so that sigma_ij is that of each substance too.
+fn l_ij(random: &mut Random) -> f64 {
+    if random.once_in(16) { random.between(interval::L_IJ) } else { random.pick(&[0.0, -0.0]) }
 }
 
 /// A value a little off: by nothing, by a few units in the last place, or by up to a thousandth.

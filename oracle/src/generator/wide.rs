@@ -6,7 +6,8 @@ use crate::record::{Case, interval};
 
 pub fn case(random: &mut Random) -> Case {
     let k_ij = |random: &mut Random| random.between(interval::K_IJ);
-    let mut case = mixture(random, substance, k_ij);
+    let l_ij = |random: &mut Random| random.between(interval::L_IJ);
+    let mut case = mixture(random, substance, k_ij, l_ij);
     case.temperature = skewed(random, interval::TEMPERATURE);
     if random.once_in(4) {
         case.partial_density.fill_with(|| random.between(interval::DENSITY));
