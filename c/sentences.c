@@ -4,14 +4,14 @@
 /* written by tools/codes from docs/codes.txt */
 static const char *const CODES[] = {
     "Accepted.",
-    "The answer buffer is too short: energies need 28 bytes, ends and slopes 52.",
+    "The buffer is too short: energies need 28 bytes, ends and slopes 52, a moved record its own length.",
     "The record has under 5 bytes, or its length field is not the number of bytes that follow it.",
-    "The version of the record is not 1.",
+    "The version of the record is neither 1 nor 2, or not the one that a move starts from.",
     "The perturbation is none of 0 (BH), 1 (WCA) and 2 (WCA-B3).",
     "The number of substances is not from 1 to 8.",
-    "The length of the record is not that of its number of substances.",
+    "The length of the record is not that of its version and number of substances.",
     "A value of the substances is outside its interval: rep 8 to 48, att 5 to 7, sigma 0.5 to 10 angstrom, epsilon_k "
-    "0.1 to 5000 kelvin, k_ij -0.9 to 0.9.",
+    "0.1 to 5000 kelvin, k_ij -0.9 to 0.9, l_ij -0.5 to 0.5.",
     "A value of the state is outside its interval: temperature 1 to 5000 kelvin, densities 0 to 2 per cubic angstrom, "
     "fractions 0 to 1 that add up to 1 within 2^-40.",
     "A value on the way is not a finite number, or a function has no rule for its argument.",
@@ -19,6 +19,7 @@ static const char *const CODES[] = {
     "no result for it.",
     "The energies have no slopes: on the way, a slope is not a finite number.",
     "Under BH the att of each substance must be 6.",
+    "The record does not go back to version 1: an l_ij of it is not +0.",
 };
 /* end of the codes */
 

@@ -123,6 +123,21 @@ fn names_that_do_not_fit() {
 }
 
 #[test]
+fn an_l_ij_that_does_not_fit() {
+    let line = line_of("k_ij");
+    let l_ij = |text: &str| changed("k_ij argon methane = 0.01", text);
+    refused(&l_ij("l_ij argon = 0.01"), 2, line, "is written: l_ij NAME NAME = NUMBER");
+    refused(&l_ij("l_ij argon neon = 0.01"), 2, line, "there is no substance neon");
+    refused(&l_ij("l_ij argon argon = 0.01"), 2, line, "l_ij is for two different substances");
+    let message = format!("l_ij of methane and argon was given in line {line} already");
+    let twice = "l_ij argon methane = 0\nl_ij methane argon = 0";
+    refused(&l_ij(twice), 2, line + 1, &message);
+    let message =
+        "l_ij of argon and methane is 0.6, and must be from -0.5 to 0.5. Refused (code 7).";
+    refused(&l_ij("l_ij methane argon = 0.6"), 1, line, message);
+}
+
+#[test]
 fn densities_that_do_not_fit() {
     let partial =
         changed("density_per_cubic_angstrom = 0.005", "density_per_cubic_angstrom argon = 0.004");

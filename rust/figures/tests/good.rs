@@ -96,6 +96,27 @@ fn records_are_written_for_the_programs() {
 }
 
 #[test]
+fn an_l_ij_is_answered_and_written_in_version_2() {
+    let with = |l_ij: &str| {
+        let line = format!("k_ij argon methane = 0.01\nl_ij methane argon = {l_ij}");
+        WCA.replacen("k_ij argon methane = 0.01", &line, 1)
+    };
+    let written = |l_ij: &str| {
+        let file = temporary("records-of-l_ij");
+        let result = figures(&with(l_ij), &["--records", file.to_str().unwrap()]);
+        assert_eq!(result.status, Some(0), "{}", result.stderr);
+        (result.stdout, std::fs::read(&file).unwrap())
+    };
+    let (without, (zero, minus_zero)) = (figures(WCA, &[]).stdout, (written("0"), written("-0")));
+    assert_eq!((zero.0.as_str(), minus_zero.0.as_str()), (without.as_str(), without.as_str()));
+    assert_eq!([zero.1.len(), minus_zero.1.len()], [117, 125]);
+    let (printed, record) = written("0.02");
+    assert_ne!(printed, without);
+    assert_eq!((record.len(), &record[..5]), (125, &[0, 123, 2, 1, 2][..]));
+    assert_eq!(record[77..85], 0.02_f64.to_be_bytes());
+}
+
+#[test]
 fn help_and_version() {
     let help = run(command().arg("--help"), b"");
     assert_eq!(help.status, Some(0));

@@ -23,6 +23,8 @@ pub const ENDS_SIZE: usize = 52;
 pub const SLOPES_SIZE: usize = 52;
 /// The bytes of a refusal.
 pub const REFUSAL_SIZE: usize = 4;
+/// The bytes of the longest record: eight substances in version 2.
+pub const RECORD_SIZE_MAX: usize = 845;
 
 /// Why a run stopped.
 #[derive(Clone, Copy, Debug, PartialEq, Eq)]
@@ -87,6 +89,19 @@ pub fn run_ends(records: &[u8], answers: &mut [u8]) -> Result<Run, Fault> {
 pub fn run_slopes(records: &[u8], answers: &mut [u8]) -> Result<Run, Fault> {
     ready()?;
     Ok(raw::run_slopes(records, answers).into())
+}
+
+/// Writes a record of version 1 in version 2, with every l_ij +0, at the start of `out`, and returns its code. Where `out`
+/// is shorter than the moved record the code is 1; with [`RECORD_SIZE_MAX`] bytes it is not. A refused move writes nothing.
+pub fn to_version_2(record: &[u8], out: &mut [u8]) -> Result<u8, Fault> {
+    ready()?;
+    Ok(raw::to_version_2(record, out))
+}
+
+/// The way back, as [`to_version_2`]. The code is 13 where an l_ij is not +0.
+pub fn to_version_1(record: &[u8], out: &mut [u8]) -> Result<u8, Fault> {
+    ready()?;
+    Ok(raw::to_version_1(record, out))
 }
 
 impl From<raw::Run> for Run {

@@ -46,15 +46,21 @@ impl Case {
         &self.state
     }
 
-    /// The case record, as `include/noddyfir.h` describes it.
+    /// The case record, as `include/noddyfir.h` describes it: of version 1 where every l_ij is +0, so that older readers
+    /// take it, and else of version 2, also for an l_ij of −0.
     ///
     /// ```
     /// use noddyfir::{Case, Mixture, Perturbation, State, Substance};
-    /// let mixture = Mixture::pure(Substance::new(12.65, 6.0, 3.74, 153.5));
+    /// let methane = Substance::new(12.65, 6.0, 3.74, 153.5);
     /// let state = State::with_density(300.0, 0.005, vec![1.0]);
-    /// let case = Case::new(Perturbation::WeeksChandlerAndersen, mixture, state)?;
+    /// let case = Case::new(Perturbation::WeeksChandlerAndersen, Mixture::pure(methane), state)?;
     /// assert_eq!(case.record().len(), 61);
     /// assert_eq!(case.record()[..13], [0, 59, 1, 1, 1, 0x40, 0x29, 0x4c, 0xcc, 0xcc, 0xcc, 0xcc, 0xcd]);
+    ///
+    /// let mixture = Mixture::binary(methane, methane, 0.01).with_l_ij(0, 1, 0.02);
+    /// let state = State::with_density(300.0, 0.005, vec![0.5, 0.5]);
+    /// let case = Case::new(Perturbation::WeeksChandlerAndersen, mixture, state)?;
+    /// assert_eq!(case.record()[..5], [0, 123, 2, 1, 2]);
     /// # Ok::<(), noddyfir::Refusal>(())
     /// ```
     pub fn record(&self) -> Vec<u8> {
@@ -67,15 +73,18 @@ impl Case {
     pub(crate) fn write_record(&self, records: &mut Vec<u8>) {
         let start = records.len();
         let n = self.mixture.substances().len() as u8;
-        records.extend([0, 0, 1, self.perturbation.byte(), n]);
+        let [k_ij, l_ij] = self.mixture.pairs();
+        let first = l_ij.iter().all(|l_ij| l_ij.to_bits() == 0);
+        records.extend([0, 0, if first { 1 } else { 2 }, self.perturbation.byte(), n]);
         for s in self.mixture.substances() {
             put(records, &[s.rep, s.att, s.sigma, s.epsilon_k]);
         }
-        put(records, self.mixture.pairs());
+        put(records, k_ij);
+        put(records, if first { &[] } else { l_ij });
         put(records, &[self.state.temperature]);
         put(records, &self.state.partial_density);
         put(records, &self.state.molefracs);
-        // At most 619.
+        // At most 843.
         let length = (records.len() - start - 2) as u16;
         records[start..start + 2].copy_from_slice(&length.to_be_bytes());
     }

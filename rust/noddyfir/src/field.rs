@@ -16,6 +16,8 @@ pub enum Field {
     EpsilonK(usize),
     /// k_ij of two substances.
     Kij(usize, usize),
+    /// l_ij of two substances.
+    Lij(usize, usize),
     /// The temperature.
     Temperature,
     /// The partial density of a substance.
@@ -36,6 +38,7 @@ impl Field {
             Self::Sigma(_) => [0.5, 10.0],
             Self::EpsilonK(_) => [0.1, 5000.0],
             Self::Kij(..) => [-0.9, 0.9],
+            Self::Lij(..) => [-0.5, 0.5],
             Self::Temperature => [1.0, 5000.0],
             Self::PartialDensity(_) => [0.0, 2.0],
             Self::Molefrac(_) => [0.0, 1.0],
@@ -53,6 +56,7 @@ impl Display for Field {
             Self::Sigma(i) => write!(f, "sigma of substance {}", i + 1),
             Self::EpsilonK(i) => write!(f, "epsilon_k of substance {}", i + 1),
             Self::Kij(i, j) => write!(f, "k_ij of substances {} and {}", i + 1, j + 1),
+            Self::Lij(i, j) => write!(f, "l_ij of substances {} and {}", i + 1, j + 1),
             Self::Temperature => write!(f, "the temperature"),
             Self::PartialDensity(i) => write!(f, "the density of substance {}", i + 1),
             Self::Molefrac(i) => write!(f, "the fraction of substance {}", i + 1),
@@ -123,9 +127,9 @@ fn substances(mixture: &Mixture) -> Vec<FieldAtFault> {
         add(Field::Sigma(i), s.sigma);
         add(Field::EpsilonK(i), s.epsilon_k);
     }
-    for (i, j) in (0..n).flat_map(|i| (i + 1..n).map(move |j| (i, j))) {
-        add(Field::Kij(i, j), mixture.k_ij(i, j));
-    }
+    let pairs = || (0..n).flat_map(|i| (i + 1..n).map(move |j| (i, j)));
+    pairs().for_each(|(i, j)| add(Field::Kij(i, j), mixture.k_ij(i, j)));
+    pairs().for_each(|(i, j)| add(Field::Lij(i, j), mixture.l_ij(i, j)));
     all
 }
 

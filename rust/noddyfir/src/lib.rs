@@ -26,7 +26,8 @@
 //! ```
 //!
 //! Names follow feos where it has them: `Perturbation`, `rep`, `att`, `sigma`, `epsilon_k`, `k_ij`, `temperature`,
-//! `partial_density`, `molefracs`.
+//! `partial_density`, `molefracs`. A pair's second constant is `l_ij` ([`Mixture::with_l_ij`]); records that have it are of
+//! version 2, and [`to_version_1`] and [`to_version_2`] move records between the versions.
 
 #![deny(unsafe_code)]
 #![warn(missing_docs)]
@@ -43,6 +44,7 @@ pub mod decimal;
 mod field;
 mod known;
 mod mixture;
+mod moves;
 mod perturbation;
 mod pressure;
 #[allow(unsafe_code)]
@@ -57,6 +59,7 @@ pub use call::{ends, energies, slopes};
 pub use case::Case;
 pub use field::{Field, FieldAtFault};
 pub use mixture::{MAX_SUBSTANCES, Mixture, Substance};
+pub use moves::{to_version_1, to_version_2};
 pub use perturbation::Perturbation;
 pub use pressure::{Pressure, pressure};
 pub use refusal::Refusal;

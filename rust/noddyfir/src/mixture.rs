@@ -24,16 +24,18 @@ impl Substance {
     }
 }
 
-/// One to eight substances and a constant k_ij for each pair of them.
+/// One to eight substances and two constants for each pair of them, k_ij and l_ij.
 #[derive(Clone, Debug, PartialEq)]
 pub struct Mixture {
     substances: Vec<Substance>,
     /// For i below j, row by row.
     k_ij: Vec<f64>,
+    /// As k_ij.
+    l_ij: Vec<f64>,
 }
 
 impl Mixture {
-    /// The mixture with every k_ij 0, or [`Refusal::Components`] where there are not one to eight substances.
+    /// The mixture with every k_ij and l_ij 0, or [`Refusal::Components`] where there are not one to eight substances.
     ///
     /// ```
     /// use noddyfir::{Mixture, Refusal, Substance};
@@ -47,17 +49,18 @@ impl Mixture {
         if !(1..=MAX_SUBSTANCES).contains(&n) {
             return Err(Refusal::Components);
         }
-        Ok(Self { substances, k_ij: vec![0.0; n * (n - 1) / 2] })
+        let zeros = vec![0.0; n * (n - 1) / 2];
+        Ok(Self { substances, k_ij: zeros.clone(), l_ij: zeros })
     }
 
     /// One substance.
     pub fn pure(substance: Substance) -> Self {
-        Self { substances: vec![substance], k_ij: vec![] }
+        Self { substances: vec![substance], k_ij: vec![], l_ij: vec![] }
     }
 
-    /// Two substances.
+    /// Two substances, with an l_ij of 0.
     pub fn binary(first: Substance, second: Substance, k_ij: f64) -> Self {
-        Self { substances: vec![first, second], k_ij: vec![k_ij] }
+        Self { substances: vec![first, second], k_ij: vec![k_ij], l_ij: vec![0.0] }
     }
 
     /// The mixture with another k_ij for the substances `i` and `j`, counted from 0, in either order.
@@ -79,7 +82,7 @@ impl Mixture {
         self
     }
 
-    /// The constant of the substances `i` and `j`, counted from 0, in either order.
+    /// k_ij of the substances `i` and `j`, counted from 0, in either order.
     ///
     /// # Panics
     ///
@@ -88,14 +91,43 @@ impl Mixture {
         self.k_ij[self.place(i, j)]
     }
 
+    /// The mixture with another l_ij for the substances `i` and `j`, counted from 0, in either order. The sigma of the pair
+    /// is (1 − l_ij) times the mean of the two, and just the mean where l_ij is 0.
+    ///
+    /// # Panics
+    ///
+    /// As [`Mixture::with_k_ij`].
+    ///
+    /// ```
+    /// use noddyfir::{Mixture, Substance};
+    /// let argon = Substance::new(12.26, 6.0, 3.404, 117.84);
+    /// let mixture = Mixture::new(vec![argon; 3])?.with_l_ij(2, 1, 0.02);
+    /// assert_eq!([mixture.l_ij(0, 1), mixture.l_ij(0, 2), mixture.l_ij(1, 2)], [0.0, 0.0, 0.02]);
+    /// # Ok::<(), noddyfir::Refusal>(())
+    /// ```
+    pub fn with_l_ij(mut self, i: usize, j: usize, l_ij: f64) -> Self {
+        let place = self.place(i, j);
+        self.l_ij[place] = l_ij;
+        self
+    }
+
+    /// l_ij of the substances `i` and `j`, counted from 0, in either order.
+    ///
+    /// # Panics
+    ///
+    /// As [`Mixture::with_k_ij`].
+    pub fn l_ij(&self, i: usize, j: usize) -> f64 {
+        self.l_ij[self.place(i, j)]
+    }
+
     /// The substances in their order.
     pub fn substances(&self) -> &[Substance] {
         &self.substances
     }
 
-    /// The constants for i below j, row by row.
-    pub(crate) fn pairs(&self) -> &[f64] {
-        &self.k_ij
+    /// Every k_ij and every l_ij, for i below j, row by row.
+    pub(crate) fn pairs(&self) -> [&[f64]; 2] {
+        [&self.k_ij, &self.l_ij]
     }
 
     fn place(&self, i: usize, j: usize) -> usize {

@@ -21,6 +21,8 @@ unsafe extern "C" {
     -> Run;
     fn noddyfir_run_ends(records: *const u8, size: usize, answers: *mut u8, room: usize) -> Run;
     fn noddyfir_run_slopes(records: *const u8, size: usize, answers: *mut u8, room: usize) -> Run;
+    fn noddyfir_to_version_2(record: *const u8, size: usize, out: *mut u8, room: usize) -> u8;
+    fn noddyfir_to_version_1(record: *const u8, size: usize, out: *mut u8, room: usize) -> u8;
 }
 
 // Each call is safe: it has no `requires`, its proof says that it stays within the two slices, and Rust sees that these
@@ -51,6 +53,14 @@ pub fn run_ends(records: &[u8], answers: &mut [u8]) -> Run {
 pub fn run_slopes(records: &[u8], answers: &mut [u8]) -> Run {
     let (answer, room) = (answers.as_mut_ptr(), answers.len());
     unsafe { noddyfir_run_slopes(records.as_ptr(), records.len(), answer, room) }
+}
+
+pub fn to_version_2(record: &[u8], out: &mut [u8]) -> u8 {
+    unsafe { noddyfir_to_version_2(record.as_ptr(), record.len(), out.as_mut_ptr(), out.len()) }
+}
+
+pub fn to_version_1(record: &[u8], out: &mut [u8]) -> u8 {
+    unsafe { noddyfir_to_version_1(record.as_ptr(), record.len(), out.as_mut_ptr(), out.len()) }
 }
 
 /// The control word MXCSR of the calling thread.

@@ -9,19 +9,19 @@ use std::fmt::{self, Display, Formatter};
 #[non_exhaustive]
 pub enum Refusal {
     // written by tools/codes from docs/codes.txt
-    /// Code 1: answer buffer too short; nothing is written.
+    /// Code 1: answer buffer, or buffer of a moved record, too short; nothing is written.
     AnswerBuffer,
     /// Code 2: record under 5 bytes, or its length field is wrong.
     Envelope,
-    /// Code 3: version not 1.
+    /// Code 3: version neither 1 nor 2, or not the one that a move starts from.
     Version,
     /// Code 4: perturbation above 2.
     Perturbation,
     /// Code 5: number of substances n not 1 to 8.
     Components,
-    /// Code 6: length is not that of n substances.
+    /// Code 6: length is not that of n substances in the version.
     Size,
-    /// Code 7: rep not in 8..48, att 5..7, sigma 0.5..10, epsilon_k 0.1..5000, or k_ij -0.9..0.9.
+    /// Code 7: rep not in 8..48, att 5..7, sigma 0.5..10, epsilon_k 0.1..5000, k_ij -0.9..0.9, or l_ij -0.5..0.5.
     Substances,
     /// Code 8: temperature not in 1..5000, a density 0..2, a fraction 0..1, or the sum of the fractions not 1 within
     /// 2^-40.
@@ -34,6 +34,9 @@ pub enum Refusal {
     Slopes,
     /// Code 12: perturbation 0 (BH) and an att other than 6; tested between 7 and 8.
     Attraction,
+    /// Code 13: an l_ij that is not +0, which version 1 cannot hold; from the move to version 1 only; tested after 8
+    /// and 12.
+    PairConstant,
     // end of the codes
     /// Another code: the library is newer than this crate. Only code 0 is success.
     Unknown(u8),
@@ -44,15 +47,16 @@ pub enum Refusal {
 // By code, from 1 on; written by tools/codes from docs/codes.txt.
 #[rustfmt::skip]
 const CODES: &[(Refusal, &str)] = &[
-    (Refusal::AnswerBuffer, "The answer buffer is too short: energies need 28 bytes, ends and slopes 52."),
+    (Refusal::AnswerBuffer, "The buffer is too short: energies need 28 bytes, ends and slopes 52, a moved record its \
+        own length."),
     (Refusal::Envelope, "The record has under 5 bytes, or its length field is not the number of bytes that follow \
         it."),
-    (Refusal::Version, "The version of the record is not 1."),
+    (Refusal::Version, "The version of the record is neither 1 nor 2, or not the one that a move starts from."),
     (Refusal::Perturbation, "The perturbation is none of 0 (BH), 1 (WCA) and 2 (WCA-B3)."),
     (Refusal::Components, "The number of substances is not from 1 to 8."),
-    (Refusal::Size, "The length of the record is not that of its number of substances."),
+    (Refusal::Size, "The length of the record is not that of its version and number of substances."),
     (Refusal::Substances, "A value of the substances is outside its interval: rep 8 to 48, att 5 to 7, sigma 0.5 to 10 \
-        angstrom, epsilon_k 0.1 to 5000 kelvin, k_ij -0.9 to 0.9."),
+        angstrom, epsilon_k 0.1 to 5000 kelvin, k_ij -0.9 to 0.9, l_ij -0.5 to 0.5."),
     (Refusal::State, "A value of the state is outside its interval: temperature 1 to 5000 kelvin, densities 0 to 2 per \
         cubic angstrom, fractions 0 to 1 that add up to 1 within 2^-40."),
     (Refusal::Arithmetic, "A value on the way is not a finite number, or a function has no rule for its argument."),
@@ -60,6 +64,7 @@ const CODES: &[(Refusal, &str)] = &[
         rule, or a rule has no result for it."),
     (Refusal::Slopes, "The energies have no slopes: on the way, a slope is not a finite number."),
     (Refusal::Attraction, "Under BH the att of each substance must be 6."),
+    (Refusal::PairConstant, "The record does not go back to version 1: an l_ij of it is not +0."),
 ];
 // end of the codes
 
@@ -89,7 +94,7 @@ impl Refusal {
     ///
     /// ```
     /// use noddyfir::Refusal;
-    /// assert_eq!(Refusal::Version.sentence(), "The version of the record is not 1.");
+    /// assert_eq!(Refusal::Components.sentence(), "The number of substances is not from 1 to 8.");
     /// ```
     pub fn sentence(self) -> &'static str {
         match (self, self.place()) {

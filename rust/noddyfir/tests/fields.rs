@@ -8,11 +8,13 @@ fn argon() -> Substance {
     Substance::new(12.26, 6.0, 3.404, 117.84)
 }
 
-fn case(change: impl FnOnce(&mut Substance, &mut f64, &mut State)) -> Case {
-    let (mut last, mut k_ij) = (Substance::new(12.65, 6.0, 3.7412, 153.36), 0.01);
+/// `pair` is k_ij and l_ij of the last two substances.
+fn case(change: impl FnOnce(&mut Substance, &mut [f64; 2], &mut State)) -> Case {
+    let (mut last, mut pair) = (Substance::new(12.65, 6.0, 3.7412, 153.36), [0.01, 0.0]);
     let mut state = State::with_density(293.15, 0.005, vec![0.5, 0.25, 0.25]);
-    change(&mut last, &mut k_ij, &mut state);
-    let mixture = Mixture::new(vec![argon(), argon(), last]).unwrap().with_k_ij(2, 1, k_ij);
+    change(&mut last, &mut pair, &mut state);
+    let mixture = Mixture::new(vec![argon(), argon(), last]).unwrap();
+    let mixture = mixture.with_k_ij(2, 1, pair[0]).with_l_ij(2, 1, pair[1]);
     Case::new(Perturbation::WeeksChandlerAndersen, mixture, state).unwrap()
 }
 
@@ -26,12 +28,13 @@ fn under_bh(case: &Case, att: f64) -> Case {
 
 /// A change of one value, by the name of its field.
 fn changed(field: Field, value: f64) -> Case {
-    case(|last, k_ij, state| match field {
+    case(|last, pair, state| match field {
         Field::Rep(_) => last.rep = value,
         Field::Att(_) => last.att = value,
         Field::Sigma(_) => last.sigma = value,
         Field::EpsilonK(_) => last.epsilon_k = value,
-        Field::Kij(..) => *k_ij = value,
+        Field::Kij(..) => pair[0] = value,
+        Field::Lij(..) => pair[1] = value,
         Field::Temperature => state.temperature = value,
         Field::PartialDensity(_) => state.partial_density[2] = value,
         Field::Molefrac(_) => state.molefracs = vec![1.0 - value, 0.0, value],
@@ -39,12 +42,13 @@ fn changed(field: Field, value: f64) -> Case {
     })
 }
 
-const FIELDS: [Field; 9] = [
+const FIELDS: [Field; 10] = [
     Field::Rep(2),
     Field::Att(2),
     Field::Sigma(2),
     Field::EpsilonK(2),
     Field::Kij(1, 2),
+    Field::Lij(1, 2),
     Field::Temperature,
     Field::PartialDensity(2),
     Field::Molefrac(2),
@@ -52,11 +56,11 @@ const FIELDS: [Field; 9] = [
 ];
 
 fn refused(field: Field) -> Refusal {
-    let substances = matches!(
-        field,
-        Field::Rep(_) | Field::Att(_) | Field::Sigma(_) | Field::EpsilonK(_) | Field::Kij(..)
-    );
-    if substances { Refusal::Substances } else { Refusal::State }
+    match field {
+        Field::Rep(_) | Field::Att(_) | Field::Sigma(_) | Field::EpsilonK(_) => Refusal::Substances,
+        Field::Kij(..) | Field::Lij(..) => Refusal::Substances,
+        _ => Refusal::State,
+    }
 }
 
 #[test]
@@ -113,8 +117,26 @@ fn under_bh_an_att_other_than_six_is_named_between_substances_and_state() {
 
 #[test]
 fn minus_zero_counts_as_zero() {
-    assert_eq!(changed(Field::PartialDensity(2), -0.0).field_at_fault(), None);
-    assert!(energies(&changed(Field::PartialDensity(2), -0.0)).is_ok());
+    for field in [Field::PartialDensity(2), Field::Lij(1, 2)] {
+        assert_eq!(changed(field, -0.0).field_at_fault(), None);
+        assert!(energies(&changed(field, -0.0)).is_ok());
+    }
+}
+
+#[test]
+fn every_k_ij_comes_before_the_l_ij() {
+    let mixture = Mixture::new(vec![argon(); 3]).unwrap();
+    let state = State::with_density(293.15, 0.005, vec![0.5, 0.25, 0.25]);
+    let at_fault = |mixture: &Mixture| {
+        let case =
+            Case::new(Perturbation::WeeksChandlerAndersen, mixture.clone(), state.clone()).unwrap();
+        case.field_at_fault().unwrap().to_string()
+    };
+    let mixture = mixture.with_l_ij(0, 1, 0.6);
+    let message = "l_ij of substances 1 and 2 is 0.6, and must be from -0.5 to 0.5";
+    assert_eq!(at_fault(&mixture), message);
+    let message = "k_ij of substances 2 and 3 is 1, and must be from -0.9 to 0.9";
+    assert_eq!(at_fault(&mixture.with_k_ij(1, 2, 1.0)), message);
 }
 
 #[test]

@@ -2,7 +2,7 @@
 
 use noddyfir::{
     Case, Fault, Mixture, Perturbation, Refusal, State, Substance, bytes, ends, energies, pressure,
-    run_ends, self_check, slopes,
+    run_ends, self_check, slopes, to_version_1, to_version_2,
 };
 use std::arch::asm;
 use std::{slice, thread};
@@ -69,10 +69,12 @@ fn every_call_refuses() {
     let calls = move || {
         let on_bytes = [bytes::run_energies(&[], &mut []), bytes::run_slopes(&[], &mut [])];
         let single = (energies(&case), ends(&case), slopes(&case), pressure(&case));
-        (single, run_ends(slice::from_ref(&case)), on_bytes)
+        let moves = [to_version_2, to_version_1].map(|call| call(&case.record()));
+        (single, run_ends(slice::from_ref(&case)), on_bytes, moves)
     };
     let single = (Err(unfit), Err(unfit), Err(unfit), Err(unfit));
-    let expected = (single, vec![Err(unfit)], [Err(Fault::Subnormals); 2]);
+    let moves = [Err(unfit), Err(unfit)];
+    let expected = (single, vec![Err(unfit)], [Err(Fault::Subnormals); 2], moves);
     assert_eq!(under(DEFAULT | 0x8040, calls), expected);
     assert!(unfit.to_string().contains("flush-to-zero"));
     assert_eq!(unfit.code(), None);

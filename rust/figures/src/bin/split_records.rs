@@ -1,8 +1,10 @@
 //! split_records PREFIX: cuts the case records of standard input, at the boundaries of records, into the files PREFIX000000,
 //! PREFIX000001 and so on, each of at most 65,536 bytes, which is what the programs energies, ends and slopes read.
 
+mod stream;
+
 use std::fs::File;
-use std::io::{self, ErrorKind, Read, Write};
+use std::io::{self, Read, Write};
 use std::process::ExitCode;
 
 const MOST_BYTES: usize = 65_536;
@@ -27,7 +29,7 @@ fn main() -> ExitCode {
 fn split(input: &mut impl Read, prefix: &str) -> io::Result<()> {
     let mut input = io::BufReader::new(input);
     let (mut part, mut number, mut place) = (Vec::new(), 0, 0);
-    while let Some(record) = next(&mut input, place)? {
+    while let Some(record) = stream::next(&mut input, place)? {
         place += record.len() as u64;
         if part.len() + record.len() > MOST_BYTES {
             write(prefix, number, &part)?;
@@ -39,22 +41,6 @@ fn split(input: &mut impl Read, prefix: &str) -> io::Result<()> {
         write(prefix, number, &part)?;
     }
     Ok(())
-}
-
-/// The record that begins at `place`, or none at the end of the input.
-fn next(input: &mut impl Read, place: u64) -> io::Result<Option<Vec<u8>>> {
-    let broken = || {
-        let message = format!("the record that begins at byte {place} is broken off");
-        io::Error::new(ErrorKind::UnexpectedEof, message)
-    };
-    let mut record = Vec::new();
-    input.take(2).read_to_end(&mut record)?;
-    let [high, low] = record[..] else {
-        return if record.is_empty() { Ok(None) } else { Err(broken()) };
-    };
-    let length = u16::from_be_bytes([high, low]);
-    input.take(length.into()).read_to_end(&mut record)?;
-    if record.len() < 2 + usize::from(length) { Err(broken()) } else { Ok(Some(record)) }
 }
 
 fn write(prefix: &str, number: usize, part: &[u8]) -> io::Result<()> {

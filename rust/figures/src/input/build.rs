@@ -1,7 +1,7 @@
 //! From what a file says to a mixture and a state.
 
-use super::document::{Document, Given, Named, SUBSTANCE_KEYS};
-use super::{Complaint, Input, Lines};
+use super::document::{Document, Given, Named, Pair, SUBSTANCE_KEYS};
+use super::{Complaint, Input, Lines, LinesOfPairs};
 use noddyfir::{MAX_SUBSTANCES, Mixture, State, Substance};
 
 /// Densities and fractions, each with its line.
@@ -15,7 +15,7 @@ pub fn input(file: &str, document: Document) -> Result<Input, Complaint> {
         |what: &str| Complaint::new(document.end, format!("{what} is missing in the file"));
     let perturbation = document.perturbation.ok_or_else(|| missing("perturbation"))?;
     let substances = substances(&document)?;
-    let (mixture, pairs) = mixture(&document, &substances)?;
+    let (mixture, [k_ij, l_ij]) = mixture(&document, &substances)?;
     let temperature = document.temperature.ok_or_else(|| missing("temperature_kelvin"))?;
     let amounts = amounts(&document)?;
     let values = |list: &[Given<f64>]| list.iter().map(|given| given.value).collect();
@@ -32,7 +32,8 @@ pub fn input(file: &str, document: Document) -> Result<Input, Complaint> {
         },
         lines: Lines {
             substances: substances.iter().map(|values| values.map(|given| given.line)).collect(),
-            pairs,
+            k_ij,
+            l_ij,
             temperature: temperature.line,
             densities: lines(&amounts.densities),
             fractions: lines(&amounts.fractions),
@@ -67,30 +68,44 @@ fn place_of(document: &Document, name: &str, line: usize) -> Result<usize, Compl
     place.ok_or_else(|| Complaint::new(line, format!("there is no substance {name} in the file")))
 }
 
-type Pairs = Vec<([usize; 2], usize)>;
-
+/// The mixture, and the lines of its k_ij and of its l_ij.
 fn mixture(
     document: &Document,
     substances: &[[Given<f64>; 4]],
-) -> Result<(Mixture, Pairs), Complaint> {
+) -> Result<(Mixture, [LinesOfPairs; 2]), Complaint> {
     let substance = |values: &[Given<f64>; 4]| {
         let [rep, att, sigma, epsilon_k] = values.map(|given| given.value);
         Substance::new(rep, att, sigma, epsilon_k)
     };
     let mut mixture = Mixture::new(substances.iter().map(substance).collect())
         .map_err(|refusal| Complaint::new(document.end, refusal.sentence()))?;
-    let mut lines = Vec::new();
-    for pair in &document.pairs {
-        let Given { value, line } = pair.given;
+    let k_ij = places(document, &document.k_ij, "k_ij")?;
+    let l_ij = places(document, &document.l_ij, "l_ij")?;
+    for ([i, j], given) in &k_ij {
+        mixture = mixture.with_k_ij(*i, *j, given.value);
+    }
+    for ([i, j], given) in &l_ij {
+        mixture = mixture.with_l_ij(*i, *j, given.value);
+    }
+    let lines = |pairs: Places| pairs.iter().map(|(pair, given)| (*pair, given.line)).collect();
+    Ok((mixture, [k_ij, l_ij].map(lines)))
+}
+
+/// Two substances, the first of them before the second, and a constant of theirs.
+type Places = Vec<([usize; 2], Given<f64>)>;
+
+fn places(document: &Document, pairs: &[Pair], key: &str) -> Result<Places, Complaint> {
+    let place = |pair: &Pair| {
+        let line = pair.given.line;
         let i = place_of(document, &pair.names[0], line)?;
         let j = place_of(document, &pair.names[1], line)?;
         if i == j {
-            return Err(Complaint::new(line, "k_ij is for two different substances"));
+            let message = format!("{key} is for two different substances");
+            return Err(Complaint::new(line, message));
         }
-        mixture = mixture.with_k_ij(i, j, value);
-        lines.push(([i.min(j), i.max(j)], line));
-    }
-    Ok((mixture, lines))
+        Ok(([i.min(j), i.max(j)], pair.given))
+    };
+    pairs.iter().map(place).collect()
 }
 
 fn amounts(document: &Document) -> Result<Amounts, Complaint> {

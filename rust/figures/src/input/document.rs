@@ -38,7 +38,8 @@ pub struct Pair {
 pub struct Document {
     pub perturbation: Option<Given<Perturbation>>,
     pub substances: Vec<NamedSubstance>,
-    pub pairs: Vec<Pair>,
+    pub k_ij: Vec<Pair>,
+    pub l_ij: Vec<Pair>,
     pub temperature: Option<Given<f64>>,
     pub density: Option<Given<f64>>,
     pub densities: Vec<Named>,
@@ -48,7 +49,7 @@ pub struct Document {
 }
 
 /// How each kind of line is written.
-const FORMS: [(&str, &str); 10] = [
+const FORMS: [(&str, &str); 11] = [
     ("perturbation", "perturbation = BH, WCA or WCA-B3"),
     ("substance", "substance NAME"),
     ("rep", "rep = NUMBER, below the substance"),
@@ -56,6 +57,7 @@ const FORMS: [(&str, &str); 10] = [
     ("sigma_angstrom", "sigma_angstrom = NUMBER, below the substance"),
     ("epsilon_k_kelvin", "epsilon_k_kelvin = NUMBER, below the substance"),
     ("k_ij", "k_ij NAME NAME = NUMBER"),
+    ("l_ij", "l_ij NAME NAME = NUMBER"),
     ("temperature_kelvin", "temperature_kelvin = NUMBER"),
     (
         "density_per_cubic_angstrom",
@@ -81,7 +83,12 @@ impl Document {
                 let given = Given { value: perturbation(line.number, value)?, line: line.number };
                 put(&mut self.perturbation, given, line.key)
             }
-            ("k_ij", [first, second]) => self.take_pair([first, second], given(line, value)?),
+            ("k_ij", [first, second]) => {
+                add_pair(&mut self.k_ij, [first, second], given(line, value)?, line.key)
+            }
+            ("l_ij", [first, second]) => {
+                add_pair(&mut self.l_ij, [first, second], given(line, value)?, line.key)
+            }
             ("temperature_kelvin", []) => put(&mut self.temperature, given(line, value)?, line.key),
             ("density_per_cubic_angstrom", []) => {
                 put(&mut self.density, given(line, value)?, line.key)
@@ -117,21 +124,6 @@ impl Document {
         let key = format!("{} of {}", line.key, substance.name);
         put(&mut substance.values[place], given(line, value)?, &key)
     }
-
-    fn take_pair(&mut self, names: [&str; 2], given: Given<f64>) -> Result<(), Complaint> {
-        let same = |pair: &&Pair| {
-            let [first, second] = [0, 1].map(|i| pair.names[i].as_str());
-            [first, second] == names || [second, first] == names
-        };
-        if let Some(before) = self.pairs.iter().find(same) {
-            let [first, second] = names;
-            let at = before.given.line;
-            let message = format!("k_ij of {first} and {second} was given in line {at} already");
-            return Err(Complaint::new(given.line, message));
-        }
-        self.pairs.push(Pair { names: names.map(str::to_owned), given });
-        Ok(())
-    }
 }
 
 fn given(line: &Line, value: &str) -> Result<Given<f64>, Complaint> {
@@ -156,6 +148,26 @@ fn add(list: &mut Vec<Named>, name: &str, given: Given<f64>, key: &str) -> Resul
         return Err(Complaint::new(given.line, message));
     }
     list.push(Named { name: name.to_owned(), given });
+    Ok(())
+}
+
+fn add_pair(
+    list: &mut Vec<Pair>,
+    names: [&str; 2],
+    given: Given<f64>,
+    key: &str,
+) -> Result<(), Complaint> {
+    let same = |pair: &&Pair| {
+        let [first, second] = [0, 1].map(|i| pair.names[i].as_str());
+        [first, second] == names || [second, first] == names
+    };
+    if let Some(before) = list.iter().find(same) {
+        let [first, second] = names;
+        let at = before.given.line;
+        let message = format!("{key} of {first} and {second} was given in line {at} already");
+        return Err(Complaint::new(given.line, message));
+    }
+    list.push(Pair { names: names.map(str::to_owned), given });
     Ok(())
 }
 

@@ -39,12 +39,15 @@ pub struct Input {
 pub struct Lines {
     /// rep, att, sigma, epsilon_k of each substance.
     pub substances: Vec<[usize; 4]>,
-    /// The two substances, and the line. A pair that is not here has no line.
-    pub pairs: Vec<([usize; 2], usize)>,
+    pub k_ij: LinesOfPairs,
+    pub l_ij: LinesOfPairs,
     pub temperature: usize,
     pub densities: Vec<usize>,
     pub fractions: Vec<usize>,
 }
+
+/// The two substances, and the line. A pair that is not here has no line.
+type LinesOfPairs = Vec<([usize; 2], usize)>;
 
 pub fn read(path: &Path) -> Result<Input, Failure> {
     let file = source::name(path);
@@ -69,6 +72,10 @@ pub fn number(word: &str) -> Result<f64, String> {
     }
 }
 
+fn line_of_pair(lines: &LinesOfPairs, pair: [usize; 2]) -> Option<usize> {
+    lines.iter().find(|(known, _)| *known == pair).map(|(_, line)| *line)
+}
+
 impl Input {
     /// The case of the mixture in a state of as many substances.
     pub fn case(&self, state: State) -> Case {
@@ -84,9 +91,8 @@ impl Input {
             Field::Att(i) => Some(lines.substances[i][1]),
             Field::Sigma(i) => Some(lines.substances[i][2]),
             Field::EpsilonK(i) => Some(lines.substances[i][3]),
-            Field::Kij(i, j) => {
-                lines.pairs.iter().find(|(pair, _)| *pair == [i, j]).map(|(_, line)| *line)
-            }
+            Field::Kij(i, j) => line_of_pair(&lines.k_ij, [i, j]),
+            Field::Lij(i, j) => line_of_pair(&lines.l_ij, [i, j]),
             Field::Temperature => Some(lines.temperature),
             Field::PartialDensity(i) => Some(lines.densities[i]),
             Field::Molefrac(i) => Some(lines.fractions[i]),
@@ -103,6 +109,7 @@ impl Input {
             Field::Sigma(i) => format!("sigma of {}", name(i)),
             Field::EpsilonK(i) => format!("epsilon_k of {}", name(i)),
             Field::Kij(i, j) => format!("k_ij of {} and {}", name(i), name(j)),
+            Field::Lij(i, j) => format!("l_ij of {} and {}", name(i), name(j)),
             Field::PartialDensity(i) => format!("the density of {}", name(i)),
             Field::Molefrac(i) => format!("the fraction of {}", name(i)),
             Field::Temperature | Field::MolefracSum => field.to_string(),
