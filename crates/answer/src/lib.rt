@@ -50,6 +50,15 @@ pub fn put_answer(answer: &mut [u8], code: u8, doubles: &[f64])
     }
 }
 
+// Writes a refusal of any number over the buffer's first bytes, and returns the number.
+pub fn write_refusal(answer: &mut [u8], code: u8) -> u8
+    requires { 4 ≤ length answer.old }
+    ensures { (result ≡ code) × (answer.new ≡ written answer.old (0 ∷ 2 ∷ 1 ∷ code ∷ [])) }
+{
+    put_header(answer, 2, code);
+    code
+}
+
 // Writes an answer over the buffer's first bytes, and returns its code.
 pub fn write_answer(answer: &mut [u8], a: Answer) -> u8
     requires { length (answer_bytes a) ≤ length answer.old }

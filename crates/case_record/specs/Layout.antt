@@ -1,5 +1,5 @@
 -- The layout of a case record: its header, the places of its doubles, and its length. Reading, writing and checks go by it, so that another version or kind of record is another layout.
-use Rattle.std.specs.Prelude.{ℕ, zero, suc, ◌+◌, ◌-◌, ◌*◌, ◌/◌, ◌≡◌, refl, Bool, List, cond, leb, eqb, get_or}
+use Rattle.std.specs.Prelude.{ℕ, zero, suc, ◌+◌, ◌-◌, ◌*◌, ◌/◌, ◌≡◌, refl, Bool, false, List, cond, leb, eqb, get_or}
 use Rattle.std.proofs.Common.{arith}
 use Rattle.uvtheory.specs.declared.eos.Perturbation.{Perturbation}
 use Rattle.uvtheory.specs.declared.eos.Perturbation.TheVariants.{BarkerHenderson, WeeksChandlerAndersen, WeeksChandlerAndersenB3}
@@ -57,12 +57,12 @@ length_of h = 3 + 8 * (layout_of h).doubles
 abbrev pub length_at : ℕ → ℕ → ℕ
 length_at version n = length_of record { version = version; perturbation = 0; n = n }
 
--- "So length is 3 + 8 × (4n + n(n−1)/2 + 1 + 2n)."
-pub length_is : (n : ℕ) → length_at 1 n ≡ 3 + 8 * (4 * n + pairs n + 1 + 2 * n)
-length_is n = go (pairs n)
+-- "So length is 3 + 8 × (4n + n(n−1)/2 + 1 + 2n).": of every header but those of version 2, whatever the perturbation
+pub length_is : (h : Header) → eqb h.version 2 ≡ false → length_of h ≡ 3 + 8 * (4 * h.n + pairs h.n + 1 + 2 * h.n)
+length_is h v = rw v (go h.n (pairs h.n))
   where
-    go : (p : ℕ) → 3 + 8 * (4 * n + p + 0 + 1 + n + n) ≡ 3 + 8 * (4 * n + p + 1 + 2 * n)
-    go p = omega arith
+    go : (n p : ℕ) → 3 + 8 * (4 * n + p + 0 + 1 + n + n) ≡ 3 + 8 * (4 * n + p + 1 + 2 * n)
+    go n p = omega arith
 
 -- M-104: "the length grows by 8 for each pair"
 pub length_grows : (n : ℕ) → length_at 2 n ≡ length_at 1 n + 8 * pairs n

@@ -59,7 +59,7 @@ pub fn power_of_two(k: i64) -> f64
 fn polynomial(r: f64) -> f64
     ensures { result ≡ R.exp_polynomial plain r }
 {
-    horner(&FACTORIALS, |p: f64, c| p * r + c)
+    horner(&FACTORIALS, r)
 }
 
 // exp of v, by its k.

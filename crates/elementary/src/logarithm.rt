@@ -35,11 +35,11 @@ pub const ODDS: [f64; 13] = [
 ];
 
 // (2s) * p.
+#[tactic(auto, unfolding(arithmetic::specs::Recipes::series))]
 fn series(s: f64) -> f64
     ensures { result ≡ R.series plain s }
 {
-    let z = s * s;
-    2.0 * s * horner(&ODDS, |p: f64, c| p * z + c)
+    2.0 * s * horner(&ODDS, s * s)
 }
 
 // m * 2^e with 0.75 <= m < 1.5.

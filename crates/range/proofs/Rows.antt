@@ -46,10 +46,11 @@ zeros : (ranges.constant (neg zero_d) ≡ zero) × (ranges.neg (range zero_d one
 unfolding Rules.point Rules.neg Rules.mul next_up next_down to_bits of_bits round fits neg mul lt eq le
 zeros = (refl, refl, refl, refl)
 
--- ---- powers: with no factor it is 1, with one it is the range itself, with three its ends move twice
-powers : (ranges.powi (range two two) 0 ≡ range one one) × (ranges.powi (range two two) 1 ≡ range two two) × (ranges.powi (range two two) 3 ≡ range (bits 0x401FFFFFFFFFFFFE) (bits 0x4020000000000002))
-unfolding Rules.powi power_by Rules.point Rules.mul next_up next_down to_bits of_bits round fits mul lt eq le
-powers = (refl, refl, refl)
+-- ---- powers: with no factor it is 1, with one it is the range itself, with two its ends move once, with three twice
+powers : (ranges.powi (range two two) 0 ≡ range one one) × (ranges.powi (range two two) 1 ≡ range two two) × (ranges.powi (range two two) 2 ≡ range (bits 0x400FFFFFFFFFFFFF) (bits 0x4010000000000001))
+    × (ranges.powi (range two two) 3 ≡ range (bits 0x401FFFFFFFFFFFFE) (bits 0x4020000000000002))
+unfolding Rules.powi Rules.even_power Rules.mul_magnitudes Rules.magnitudes power_by Rules.point Rules.mul next_up next_down to_bits of_bits round fits neg mul lt eq le
+powers = (refl, refl, refl, refl)
 
 -- ---- squares: [0,0] stays; from 0 where 0 is held; signs dropped; never below 0, where the square of 2^−1074 is rounded to 0; and the fourth power of [−2,1]
 squares : (ranges.powi zero 2 ≡ zero) × (ranges.powi (range minus_one two) 2 ≡ range zero_d (bits 0x4010000000000001)) × (ranges.powi (range zero_d one) 2 ≡ range zero_d (bits 0x3FF0000000000001))

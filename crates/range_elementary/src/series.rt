@@ -50,5 +50,5 @@ pub fn horner(c: &[f64], z: Range) -> Range
     requires { 0 < length c.now }
     ensures { result ≡ R.horner rules z (slice_index_or c.now 0 nan) (drop 1 c.now) }
 {
-    elementary::series::horner(c, |p: Range, x| step(p, z, x))
+    elementary::series::horner_by(c, |p: Range, x| step(p, z, x))
 }

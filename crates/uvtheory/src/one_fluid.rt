@@ -71,19 +71,44 @@ pub fn cube_root<D: DualNum>(v: D) -> D
     v.powf(D::from(1.0) / D::from(3.0))
 }
 
+// By any matrices of n rows, the sigma, the fractions and the diameters.
+pub fn one_fluid_of<D: DualNum>(
+    n: Components,
+    rep_ij: &[D; 64],
+    att_ij: &[D; 64],
+    sigma_ij: &[D; 64],
+    eps_k_ij: &[D; 64],
+    sigma: &[D; 8],
+    x: &[D; 8],
+    d: &[D; 8],
+) -> OneFluid<D>
+    ensures { result ≡ F.one_fluid_of D.arithmetic n (matrix D.arithmetic n rep_ij.now) (matrix D.arithmetic n att_ij.now) (matrix D.arithmetic n sigma_ij.now) (matrix D.arithmetic n eps_k_ij.now)
+        (row D.arithmetic sigma.now) (row D.arithmetic x.now) (row D.arithmetic d.now) }
+{
+    let weighted_sigma3_ij = pair_mean(n, x, sigma_ij, 3);
+    let sigma_x = cube_root(mean_cube(n, x, sigma));
+    OneFluid {
+        rep: pair_mean(n, x, rep_ij, 1),
+        att: pair_mean(n, x, att_ij, 1),
+        sigma: sigma_x,
+        weighted_sigma3_ij,
+        epsilon_k: virial_sum(n, x, sigma_ij, 3, eps_k_ij) / weighted_sigma3_ij,
+        d: cube_root(mean_cube(n, x, d)) / sigma_x,
+    }
+}
+
 // Of the mixture, by the fractions and the diameters.
 pub fn one_fluid_properties<D: DualNum>(p: &UVTheoryPars<D>, x: &[D; 8], d: &[D; 8]) -> OneFluid<D>
     ensures { result ≡ F.one_fluid_properties D.arithmetic (parameters D.arithmetic p.now) (row D.arithmetic x.now) (row D.arithmetic d.now) }
 {
-    let n = p.mixture.n;
-    let weighted_sigma3_ij = pair_mean(n, x, &p.sigma_ij, 3);
-    let sigma_x = cube_root(mean_cube(n, x, &p.sigma));
-    OneFluid {
-        rep: pair_mean(n, x, &p.rep_ij, 1),
-        att: pair_mean(n, x, &p.att_ij, 1),
-        sigma: sigma_x,
-        weighted_sigma3_ij,
-        epsilon_k: virial_sum(n, x, &p.sigma_ij, 3, &p.eps_k_ij) / weighted_sigma3_ij,
-        d: cube_root(mean_cube(n, x, d)) / sigma_x,
-    }
+    one_fluid_of(
+        p.mixture.n,
+        &p.rep_ij,
+        &p.att_ij,
+        &p.sigma_ij,
+        &p.eps_k_ij,
+        &p.sigma,
+        x,
+        d,
+    )
 }

@@ -1,12 +1,13 @@
 // uvtheory/eos/wca/hard_sphere.rs: diameters and lengths by Weeks, Chandler and Andersen.
-ghost use Rattle.std.specs.Prelude.{◌≡◌, ◌<◌};
+ghost use Rattle.std.specs.Prelude.{◌≡◌, ◌<◌, ◌≤◌};
 ghost use Rattle.uvtheory.specs.Inputs.{parameters};
 ghost use Rattle.uvtheory.specs.Rows.{doubles, row, matrix, Row, Matrix};
 ghost use Rattle.uvtheory.specs.Wca.HardSphere as F;
 ghost use Rattle.uvtheory_wca.specs.Lengths.{Minima, MinimaOfPairs};
 
 use num_dual::dual_num::DualNum;
-use uvtheory::arrays::{each, symmetric};
+use uvtheory::arrays::{each, matrix, symmetric};
+use uvtheory::components::Components;
 use uvtheory::consts::PI;
 use uvtheory::packing_fraction::PackingConstants;
 use uvtheory::parameters::UVTheoryPars;
@@ -205,6 +206,52 @@ pub fn diameter_q_ij<D: DualNum>(p: &UVTheoryPars<D>, t: D, rm_ij: &[D; 64]) -> 
             q_of(t / ij.epsilon_k, ij.rep, ij.att, rm_ij[n.row_by_row(i, j)])
         },
     )
+}
+
+// The places of the minima and the q of pairs.
+#[derive(Clone, Copy)]
+pub struct LengthTables<D> {
+    pub rm: [D; 64],
+    pub q: [D; 64],
+}
+
+// Both of all pairs, by any matrices of n rows, symmetric or not.
+pub fn pair_lengths<D: DualNum>(
+    n: Components,
+    rep_ij: &[D; 64],
+    att_ij: &[D; 64],
+    eps_k_ij: &[D; 64],
+    t: D,
+) -> LengthTables<D>
+    ensures minima { Matrix D.arithmetic n result.rm (λ i j. F.rm_of D.arithmetic (matrix D.arithmetic n rep_ij.now i j) (matrix D.arithmetic n att_ij.now i j)) }
+    ensures diameters { Matrix D.arithmetic n result.q (λ i j. F.dimensionless_diameter_q_wca D.arithmetic (D.arithmetic.div t (matrix D.arithmetic n eps_k_ij.now i j)) (matrix D.arithmetic n rep_ij.now i j) (matrix D.arithmetic n att_ij.now i j)) }
+{
+    let rm = matrix(
+        n,
+        |i: usize, j: usize| -> D
+            requires { (i < n) × (j < n) × (n ≤ 8) }
+            ensures { result ≡ F.rm_of D.arithmetic (matrix D.arithmetic n rep_ij.entry.now i j) (matrix D.arithmetic n att_ij.entry.now i j) }
+        {
+            let k = n.row_by_row(i, j);
+            rm_of(rep_ij[k], att_ij[k])
+        },
+    );
+    let q = matrix(
+        n,
+        |i: usize, j: usize| -> D
+            requires { (i < n) × (j < n) × (n ≤ 8) }
+            ensures { result ≡ F.dimensionless_diameter_q_wca D.arithmetic (D.arithmetic.div t (matrix D.arithmetic n eps_k_ij.entry.now i j)) (matrix D.arithmetic n rep_ij.entry.now i j) (matrix D.arithmetic n att_ij.entry.now i j) }
+        {
+            let k = n.row_by_row(i, j);
+            q_of(
+                t / eps_k_ij[k],
+                rep_ij[k],
+                att_ij[k],
+                rm_of(rep_ij[k], att_ij[k]),
+            )
+        },
+    );
+    LengthTables { rm, q }
 }
 
 // The dimensionless tau of a pair.

@@ -1,14 +1,15 @@
 // uvtheory/eos/wca/reference_perturbation.rs and reference_perturbation_uvb3.rs, which differ in their packing tables only.
 ghost use Rattle.std.specs.Prelude.{◌≡◌, ◌<◌};
+ghost use Rattle.arithmetic.specs.Sums.{pairs};
 ghost use Rattle.uvtheory.specs.Tables.{table};
-ghost use Rattle.uvtheory.specs.Rows.{row};
+ghost use Rattle.uvtheory.specs.Rows.{row, matrix};
 ghost use Rattle.uvtheory.specs.Inputs.{parameters, state_of};
-ghost use Rattle.uvtheory.specs.Wca.HardSphere.{rm_of, diameter_wca, dimensionless_length_scale, dimensionless_diameter_q_wca};
 ghost use Rattle.uvtheory.specs.Wca.ReferencePerturbation as F;
 
 use crate::hard_sphere::tau;
 use crate::weeks_chandler_andersen::{Component, Pair, WeeksChandlerAndersen};
 use num_dual::dual_num::DualNum;
+use uvtheory::components::Components;
 use uvtheory::hard_sphere::sum;
 use uvtheory::packing_fraction::{
     PackingConstants, packing_fraction, packing_fraction_a, packing_fraction_b,
@@ -37,7 +38,34 @@ pub fn term<D: DualNum>(
             - (-eta_b * half + one) / (-eta_b + one).powi(3) * (-d_ij.powi(3) + rs3))
 }
 
+// Of two components and the q, sigma and rep of their pair.
 #[tactic(auto, unfolding(uvtheory::specs::Wca::ReferencePerturbation::term_of))]
+fn term_by<D: DualNum>(
+    c: &PackingConstants,
+    i: Component<D>,
+    j: Component<D>,
+    q: D,
+    sigma_ij: D,
+    rep_ij: D,
+    eta: D,
+) -> D
+    ensures { result ≡ F.term_of D.arithmetic (table c.now.eta_a) (table c.now.eta_b) i.x j.x i.rm j.rm i.d j.d i.length j.length q sigma_ij rep_ij eta }
+{
+    let half = D::from(0.5);
+    let t = tau(i.length, j.length, sigma_ij);
+    term(
+        i.x,
+        j.x,
+        packing_fraction_a(&c.eta_a, eta, t, rep_ij),
+        packing_fraction_b(&c.eta_b, eta, t),
+        (i.rm + j.rm) * half,
+        (i.d + j.d) * half,
+        q * sigma_ij,
+        sigma_ij,
+    )
+}
+
+// Of two components and their pair.
 pub fn term_of<D: DualNum>(
     c: &PackingConstants,
     i: Component<D>,
@@ -47,35 +75,51 @@ pub fn term_of<D: DualNum>(
 ) -> D
     ensures { result ≡ F.term_of D.arithmetic (table c.now.eta_a) (table c.now.eta_b) i.x j.x i.rm j.rm i.d j.d i.length j.length ij.q ij.sigma ij.rep eta }
 {
-    let half = D::from(0.5);
-    let t = tau(i.length, j.length, ij.sigma);
-    term(
-        i.x,
-        j.x,
-        packing_fraction_a(&c.eta_a, eta, t, ij.rep),
-        packing_fraction_b(&c.eta_b, eta, t),
-        (i.rm + j.rm) * half,
-        (i.d + j.d) * half,
-        ij.q * ij.sigma,
-        ij.sigma,
-    )
+    term_by(c, i, j, ij.q, ij.sigma, ij.rep, eta)
 }
 
-// Of the components i and j.
-fn term_ij<D: DualNum>(
-    c: &PackingConstants,
-    w: &WeeksChandlerAndersen<D>,
+fn component_of<D: DualNum>(
     i: usize,
-    j: usize,
+    x: &[D; 8],
+    rm: &[D; 8],
+    d: &[D; 8],
+    length: &[D; 8],
+) -> Component<D>
+    requires { i < 8 }
+    ensures { result ≡ record { x = row D.arithmetic x.entry.now i; rm = row D.arithmetic rm.entry.now i; d = row D.arithmetic d.entry.now i; length = row D.arithmetic length.entry.now i } }
+{
+    Component {
+        x: x[i],
+        rm: rm[i],
+        d: d[i],
+        length: length[i],
+    }
+}
+
+// The sum over all pairs, by any rows and matrices.
+pub fn pair_sum<D: DualNum>(
+    c: &PackingConstants,
+    n: Components,
+    x: &[D; 8],
+    rm: &[D; 8],
+    d: &[D; 8],
+    length: &[D; 8],
+    q: &[D; 64],
+    sigma_ij: &[D; 64],
+    rep_ij: &[D; 64],
     eta: D,
 ) -> D
-    requires { (i < w.now.mixture.n) × (j < w.now.mixture.n) }
-    ensures { result ≡ F.term_ij D.arithmetic (table c.now.eta_a) (table c.now.eta_b) (row D.arithmetic w.now.state.molefracs) (λ i. rm_of D.arithmetic ((parameters D.arithmetic w.now.mixture).rep i) ((parameters D.arithmetic w.now.mixture).att i))
-        (diameter_wca D.arithmetic (parameters D.arithmetic w.now.mixture) w.now.state.temperature) (dimensionless_length_scale D.arithmetic (parameters D.arithmetic w.now.mixture) w.now.state.temperature)
-        (λ i j. dimensionless_diameter_q_wca D.arithmetic (D.arithmetic.div w.now.state.temperature ((parameters D.arithmetic w.now.mixture).eps_k_ij i j)) ((parameters D.arithmetic w.now.mixture).rep_ij i j) ((parameters D.arithmetic w.now.mixture).att_ij i j))
-        (parameters D.arithmetic w.now.mixture).sigma_ij (parameters D.arithmetic w.now.mixture).rep_ij eta i j }
+    ensures { result ≡ pairs D.arithmetic n (F.term_ij D.arithmetic (table c.now.eta_a) (table c.now.eta_b) (row D.arithmetic x.now) (row D.arithmetic rm.now) (row D.arithmetic d.now) (row D.arithmetic length.now)
+        (matrix D.arithmetic n q.now) (matrix D.arithmetic n sigma_ij.now) (matrix D.arithmetic n rep_ij.now) eta) }
 {
-    term_of(c, w.component(i), w.component(j), w.pair(i, j), eta)
+    let n = n.get();
+    let mut a = D::from(0.0);
+    for ij in 0..n * n {
+        let i = component_of(ij / n, x, rm, d, length);
+        let j = component_of(ij % n, x, rm, d, length);
+        a = a + term_by(c, i, j, q[ij], sigma_ij[ij], rep_ij[ij], eta);
+    }
+    a
 }
 
 // By the packing constants of WCA or of B3.
@@ -83,13 +127,21 @@ pub fn helmholtz_energy_density<D: DualNum>(c: &PackingConstants, w: &WeeksChand
     ensures { result ≡ F.helmholtz_energy_density D.arithmetic (table c.now.eta_a) (table c.now.eta_b) (parameters D.arithmetic w.now.mixture) (state_of D.arithmetic w.now.state) }
 {
     let p = w.parameters;
-    let components = p.mixture.n;
+    let n = p.mixture.n;
+    let molefracs = &w.state.molefracs;
     let partial_density = &w.state.partial_density;
-    let eta = packing_fraction(components, partial_density, &w.d);
-    let n = components.get();
-    let mut a = D::from(0.0);
-    for k in 0..n * n {
-        a = a + term_ij(c, w, k / n, k % n, eta);
-    }
-    energy(a, sum(components, partial_density))
+    let eta = packing_fraction(n, partial_density, &w.d);
+    let a = pair_sum(
+        c,
+        n,
+        molefracs,
+        &w.rm,
+        &w.d,
+        &w.length,
+        &w.q_ij,
+        &p.sigma_ij,
+        &p.rep_ij,
+        eta,
+    );
+    energy(a, sum(n, partial_density))
 }

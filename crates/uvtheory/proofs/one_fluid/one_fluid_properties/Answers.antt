@@ -1,5 +1,4 @@
-use Rattle.std.proofs.Common.{refl}
-use Rattle.num_dual.specs.Powers.{first_power}
+use Rattle.std.proofs.Common.{refl, ◌∙◌}
 use Rattle.uvtheory.specs.Rows.{missing, row}
 use Rattle.uvtheory.specs.Inputs.{parameters}
 use Rattle.uvtheory.proofs.Loops.{adds}
@@ -17,16 +16,4 @@ returns g c =
     let d = row A c.args.d.now in
     let fluid =
     one_fluid_is A (adds A number.sum_start number.sum_step) (missing A) f.n (row A c.args.x.now) p.rep_ij p.att_ij p.sigma_ij p.eps_k_ij c.args.d.now f.rep_ij f.att_ij f.sigma_ij f.eps_k_ij f.sigma d m.rep_are m.att_are m.sigma_are m.epsilon_are (λ i _. refl) in
-    rw (← c.p.view_is) (simp (
-      number.div_is _ _ _ c.div.ensures,
-      number.div_is _ _ _ c.div-2.ensures,
-      c.virial_sum.ensures,
-      c.cube_root.ensures,
-      c.cube_root-sigma_x.ensures,
-      c.mean_cube.ensures,
-      c.mean_cube-2.ensures,
-      c.pair_mean.ensures,
-      c.pair_mean-2.ensures,
-      c.pair_mean-weighted_sigma3_ij.ensures,
-      first_power A number.powi_is,
-    ) (rw rows.sigma_are fluid))
+    rw (← c.p.view_is) (c.one_fluid_of.ensures ∙ rw rows.sigma_are fluid)

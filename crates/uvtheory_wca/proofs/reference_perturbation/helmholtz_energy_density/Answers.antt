@@ -1,31 +1,15 @@
-use Rattle.std.proofs.Common.{◌≡◌, ◌*◌, ◌<◌, ◌∙◌, sym, ap, ap₂, arith}
+use Rattle.std.proofs.Common.{subst, ℕ, ◌*◌, ◌/◌, ◌%◌, ◌∙◌}
+use Rattle.uvtheory.specs.Tables.{table}
+use Rattle.uvtheory.specs.Rows.{missing, row, matrix}
 use Rattle.uvtheory.specs.declared.parameters.Mixture.{Mixture}
-use Rattle.uvtheory.specs.Rows.{missing, row}
 use Rattle.uvtheory.specs.Inputs.{parameters}
+use Rattle.uvtheory.specs.Held.{Matrices}
 use Rattle.uvtheory.specs.PackingFraction.{packing_fraction}
-use Rattle.uvtheory.specs.Wca.HardSphere.{diameter_wca}
+use Rattle.uvtheory.specs.Wca.HardSphere.{rm_of, diameter_wca, dimensionless_length_scale, dimensionless_diameter_q_wca}
 use Rattle.uvtheory.specs.Wca.ReferencePerturbation as F
-use Rattle.uvtheory.proofs.Loops.{adds, row_of, column_of}
-use Rattle.uvtheory.proofs.Sums.{packing_fraction_of}
-use Rattle.uvtheory_wca.proofs.Sizes.{lengths_fit}
+use Rattle.uvtheory.proofs.Loops.{adds, sum_ext, row_of, column_of}
+use Rattle.uvtheory.proofs.Sums.{matrix_at, packing_fraction_of}
 use Rattle.uvtheory_wca.proofs.reference_perturbation.helmholtz_energy_density.Goals as goal
-
-pub term_ij-requires : goal.term_ij-requires
-term_ij-requires g c =
-    let n : c.get-n.result ≡ c.args.w.now.mixture.n = rw (← c.w.view_is) (c.get-n.ensures.0 ∙ ap (λ (m : Mixture). m.n) c.p.view_is) in
-    let inside : c.loop-k.k < c.get-n.result * c.get-n.result = omega arith in
-    let row = row_of c.get-n.result c.loop-k.k inside in
-    let column = column_of c.get-n.result c.loop-k.k inside in
-    (lengths_fit _ _ g.met.D.DualNum.aligned g.met.D.DualNum.small, (omega (arith, n, row), omega (arith, n, column)))
-
-pub add-a-requires : goal.add-a-requires
-add-a-requires g c = g.met.D.DualNum.add_total _ _
-
-pub loop-k-preserved : goal.loop-k-preserved
-loop-k-preserved g c =
-    let A = g.D.DualNum.arithmetic in
-    let number = g.met.D.DualNum in
-    (omega arith, number.add_is _ _ _ c.add-a.ensures ∙ ap₂ A.add c.loop-k.invariant.1 c.term_ij.ensures ∙ sym (number.sum_step c.loop-k.k _))
 
 pub returns : goal.returns
 unfolding F.helmholtz_energy_density
@@ -33,12 +17,37 @@ returns g c =
     let A = g.D.DualNum.arithmetic in
     let left = adds A g.met.D.DualNum.sum_start g.met.D.DualNum.sum_step in
     let w = c.w.inside in
-    let m = c.args.w.now.mixture in
-    let s = c.args.w.now.state in
-    let density = row A s.partial_density in
-    let n : c.get-n.result ≡ m.n = rw (← c.w.view_is) (c.get-n.ensures.0 ∙ ap (λ (m : Mixture). m.n) c.p.view_is) in
-    let diameters = packing_fraction_of A left (missing A) w.parameters.now.n (row A w.state.now.partial_density) w.d _ c.w.invariant.0.d_are in
-    let eta : c.packing_fraction-eta.result ≡ packing_fraction A m.n density (diameter_wca A (parameters A m) s.temperature) = rw (← c.w.view_is) (c.packing_fraction-eta.ensures ∙ rw (c.p.view_is, diameters)) in
-    let total : c.sum.result ≡ A.sum m.n density = rw (← c.w.view_is) (c.sum.ensures ∙ rw c.p.view_is) in
-    let last : c.loop-k.k ≡ c.get-n.result * c.get-n.result = omega arith in
-    c.energy.ensures ∙ rw (c.loop-k.invariant.1, last, n, eta, total)
+    let lengths = c.w.invariant.0 in
+    let p = c.p.inside in
+    let held = subst (λ (m : Mixture). Matrices A m p.rep_ij p.att_ij p.sigma_ij p.eps_k_ij) c.p.view_is c.p.invariant.1 in
+    let m = w.parameters.now in
+    let s = w.state.now in
+    let f = parameters A m in
+    let n = m.n in
+    let x = row A s.molefracs in
+    let rm : ℕ → _ = λ i. rm_of A (f.rep i) (f.att i) in
+    let d = diameter_wca A f s.temperature in
+    let length = dimensionless_length_scale A f s.temperature in
+    let q : ℕ → ℕ → _ = λ i j. dimensionless_diameter_q_wca A (A.div s.temperature (f.eps_k_ij i j)) (f.rep_ij i j) (f.att_ij i j) in
+    let eta = packing_fraction A n (row A s.partial_density) d in
+    let ta = table c.args.c.now.eta_a in
+    let tb = table c.args.c.now.eta_b in
+    let diameters = packing_fraction_of A left (missing A) n (row A s.partial_density) w.d _ lengths.d_are in
+    let terms = sum_ext A left (n * n)
+    (λ k. F.term_ij A ta tb x (row A w.rm) (row A w.d) (row A w.length) (matrix A n w.q_ij) (matrix A n p.sigma_ij) (matrix A n p.rep_ij) eta (k / n) (k % n))
+    (λ k. F.term_ij A ta tb x rm d length q f.sigma_ij f.rep_ij eta (k / n) (k % n))
+    (λ k l.
+    let i = row_of n k l in
+    let j = column_of n k l in
+    rw (
+      matrix_at (missing A) n w.q_ij q c.w.invariant.1.q_are k l,
+      matrix_at (missing A) n p.sigma_ij f.sigma_ij held.sigma_are k l,
+      matrix_at (missing A) n p.rep_ij f.rep_ij held.rep_are k l,
+      lengths.rm_are (k / n) i,
+      lengths.rm_are (k % n) j,
+      lengths.d_are (k / n) i,
+      lengths.d_are (k % n) j,
+      lengths.length_are (k / n) i,
+      lengths.length_are (k % n) j,
+    )) in
+    rw (← c.w.view_is) (c.energy.ensures ∙ rw (c.pair_sum-a.ensures, c.packing_fraction-eta.ensures, c.sum.ensures, c.p.view_is, diameters, terms))

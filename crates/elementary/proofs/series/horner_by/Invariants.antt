@@ -2,7 +2,7 @@
 use Rattle.std.proofs.Common.{◌≡◌, List, ◌∷◌, ◌++◌}
 use Rattle.std.specs.Prelude.{Float}
 use Rattle.arithmetic.specs.Recipes as R
-use Rattle.elementary.proofs.series.horner.Given as goal
+use Rattle.elementary.proofs.series.horner_by.Given as goal
 
 abbrev pub invariant-loop-x : goal.invariant-loop-x
 invariant-loop-x g l =
