@@ -39,6 +39,19 @@ pub struct Component<D> {
     pub sigma: D,
 }
 
+// Of the k-th, by rows.
+#[inline(always)]
+pub fn component_of<D: DualNum>(k: usize, x: &[D; 8], d: &[D; 8], sigma: &[D; 8]) -> Component<D>
+    requires { k < 8 }
+    ensures { result ≡ record { x = row D.arithmetic x.entry.now k; d = row D.arithmetic d.entry.now k; sigma = row D.arithmetic sigma.entry.now k } }
+{
+    Component {
+        x: x[k],
+        d: d[k],
+        sigma: sigma[k],
+    }
+}
+
 impl<'a, D: DualNum> BarkerHenderson<'a, D> {
     #[tactic(auto, using(uvtheory::proofs::Sizes::parameters_fit))]
     pub fn new(parameters: &'a UVTheoryPars<D>, state: &'a State<D>) -> BarkerHenderson<'a, D>
@@ -60,11 +73,6 @@ impl<'a, D: DualNum> BarkerHenderson<'a, D> {
         let p = self.parameters;
         let x = &self.state.molefracs;
         let d = &self.d;
-        let k = p.mixture.n.in_row(i);
-        Component {
-            x: x[k],
-            d: d[k],
-            sigma: p.pure(i).sigma,
-        }
+        component_of(p.mixture.n.in_row(i), x, d, &p.sigma)
     }
 }

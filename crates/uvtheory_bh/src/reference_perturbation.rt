@@ -5,7 +5,7 @@ ghost use Rattle.uvtheory.specs.Rows.{row, matrix};
 ghost use Rattle.uvtheory.specs.Inputs.{parameters, state_of};
 ghost use Rattle.uvtheory.specs.Bh.ReferencePerturbation as F;
 
-use crate::barker_henderson::{BarkerHenderson, Component};
+use crate::barker_henderson::{BarkerHenderson, Component, component_of};
 use crate::hard_sphere::{BH_CONSTANTS_ETA_A, BH_CONSTANTS_ETA_B, tau};
 use num_dual::dual_num::DualNum;
 use uvtheory::components::Components;
@@ -53,19 +53,9 @@ pub fn pair_sum<D: DualNum>(
     let n = n.get();
     let mut a = D::from(0.0);
     for ij in 0..n * n {
-        let i = ij / n;
-        let j = ij % n;
-        let first = Component {
-            x: x[i],
-            d: d[i],
-            sigma: sigma[i],
-        };
-        let second = Component {
-            x: x[j],
-            d: d[j],
-            sigma: sigma[j],
-        };
-        a = a + term_of(first, second, sigma_ij[ij], rep_ij[ij], eta);
+        let i = component_of(ij / n, x, d, sigma);
+        let j = component_of(ij % n, x, d, sigma);
+        a = a + term_of(i, j, sigma_ij[ij], rep_ij[ij], eta);
     }
     a
 }

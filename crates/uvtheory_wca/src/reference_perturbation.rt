@@ -1,5 +1,5 @@
 // uvtheory/eos/wca/reference_perturbation.rs and reference_perturbation_uvb3.rs, which differ in their packing tables only.
-ghost use Rattle.std.specs.Prelude.{◌≡◌, ◌<◌};
+ghost use Rattle.std.specs.Prelude.{◌≡◌};
 ghost use Rattle.arithmetic.specs.Sums.{pairs};
 ghost use Rattle.uvtheory.specs.Tables.{table};
 ghost use Rattle.uvtheory.specs.Rows.{row, matrix};
@@ -7,7 +7,7 @@ ghost use Rattle.uvtheory.specs.Inputs.{parameters, state_of};
 ghost use Rattle.uvtheory.specs.Wca.ReferencePerturbation as F;
 
 use crate::hard_sphere::tau;
-use crate::weeks_chandler_andersen::{Component, Pair, WeeksChandlerAndersen};
+use crate::weeks_chandler_andersen::{Component, Pair, WeeksChandlerAndersen, component_of};
 use num_dual::dual_num::DualNum;
 use uvtheory::components::Components;
 use uvtheory::hard_sphere::sum;
@@ -76,24 +76,6 @@ pub fn term_of<D: DualNum>(
     ensures { result ≡ F.term_of D.arithmetic (table c.now.eta_a) (table c.now.eta_b) i.x j.x i.rm j.rm i.d j.d i.length j.length ij.q ij.sigma ij.rep eta }
 {
     term_by(c, i, j, ij.q, ij.sigma, ij.rep, eta)
-}
-
-fn component_of<D: DualNum>(
-    i: usize,
-    x: &[D; 8],
-    rm: &[D; 8],
-    d: &[D; 8],
-    length: &[D; 8],
-) -> Component<D>
-    requires { i < 8 }
-    ensures { result ≡ record { x = row D.arithmetic x.entry.now i; rm = row D.arithmetic rm.entry.now i; d = row D.arithmetic d.entry.now i; length = row D.arithmetic length.entry.now i } }
-{
-    Component {
-        x: x[i],
-        rm: rm[i],
-        d: d[i],
-        length: length[i],
-    }
 }
 
 // The sum over all pairs, by any rows and matrices.

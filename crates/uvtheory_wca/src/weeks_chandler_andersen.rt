@@ -47,6 +47,26 @@ pub struct Component<D> {
     pub length: D,
 }
 
+// Of the k-th, by rows.
+#[inline(always)]
+pub fn component_of<D: DualNum>(
+    k: usize,
+    x: &[D; 8],
+    rm: &[D; 8],
+    d: &[D; 8],
+    length: &[D; 8],
+) -> Component<D>
+    requires { k < 8 }
+    ensures { result ≡ record { x = row D.arithmetic x.entry.now k; rm = row D.arithmetic rm.entry.now k; d = row D.arithmetic d.entry.now k; length = row D.arithmetic length.entry.now k } }
+{
+    Component {
+        x: x[k],
+        rm: rm[k],
+        d: d[k],
+        length: length[k],
+    }
+}
+
 // The values of a pair: its potential, place of the minimum and q.
 #[derive(Clone, Copy)]
 pub struct Pair<D> {
@@ -95,13 +115,7 @@ impl<'a, D: DualNum> WeeksChandlerAndersen<'a, D> {
         let rm = &self.rm;
         let d = &self.d;
         let length = &self.length;
-        let k = p.mixture.n.in_row(i);
-        Component {
-            x: x[k],
-            rm: rm[k],
-            d: d[k],
-            length: length[k],
-        }
+        component_of(p.mixture.n.in_row(i), x, rm, d, length)
     }
 
     #[inline(always)]
