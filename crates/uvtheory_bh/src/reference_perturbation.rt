@@ -16,7 +16,7 @@ use uvtheory::reference_energy::energy;
 
 // Of two components and the sigma and rep of their pair.
 #[tactic(auto, unfolding(uvtheory::specs::Bh::ReferencePerturbation::term_of, uvtheory::specs::Bh::ReferencePerturbation::term))]
-pub fn term_of<D: DualNum>(i: Component<D>, j: Component<D>, sigma_ij: D, rep_ij: D, eta: D) -> D
+fn term_by<D: DualNum>(i: Component<D>, j: Component<D>, sigma_ij: D, rep_ij: D, eta: D) -> D
     ensures { result ≡ F.term_of D.arithmetic i.x j.x i.d j.d i.sigma j.sigma sigma_ij rep_ij eta }
 {
     let t = tau(i.d, i.sigma, j.d, j.sigma);
@@ -35,7 +35,7 @@ pub fn term_of<D: DualNum>(i: Component<D>, j: Component<D>, sigma_ij: D, rep_ij
 pub fn term<D: DualNum>(i: Component<D>, j: Component<D>, ij: Mie<D>, eta: D) -> D
     ensures { result ≡ F.term_of D.arithmetic i.x j.x i.d j.d i.sigma j.sigma ij.sigma ij.rep eta }
 {
-    term_of(i, j, ij.sigma, ij.rep, eta)
+    term_by(i, j, ij.sigma, ij.rep, eta)
 }
 
 // The sum over all pairs, by any rows and matrices.
@@ -55,7 +55,7 @@ pub fn pair_sum<D: DualNum>(
     for ij in 0..n * n {
         let i = component_of(ij / n, x, d, sigma);
         let j = component_of(ij % n, x, d, sigma);
-        a = a + term_of(i, j, sigma_ij[ij], rep_ij[ij], eta);
+        a = a + term_by(i, j, sigma_ij[ij], rep_ij[ij], eta);
     }
     a
 }
